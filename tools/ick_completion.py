@@ -12,11 +12,8 @@ FUNCTION, VARIABLE, KEYWORD = 3, 6, 14
 MOST = 400  # items of an answer. A client asks again when more is typed
 STARTS = ("DO", "PLEASE", "PLEASE DO")
 WORD = re.compile(rb"[A-Z]*\Z")
-# The marks of the variables that can stand where the reader expects one.
-MARKS = {
-    "a variable, a mesh (#) or a group": ".:,;", "a variable or an element": ".:,;", "a variable or an array": ".:,;",
-    "an array": ",;", "a tail": ",", ick_source.ANY: ".:,;",
-}
+NAMED = re.compile(rb"([.:,;!])[\t-\r &V?]*([0-9]+)")
+A_WORD = re.compile("<-|[A-Z]+")
 
 
 def completions(document, at):
@@ -24,7 +21,7 @@ def completions(document, at):
     index = bisect.bisect_right(document.statements, at, key=lambda one: one.start) - 1
     if index < 0:
         start = WORD.search(document.source, 0, at).start()
-        wanted = ick_pieces.Wanted("DO or PLEASE", start, document.source[start:at])
+        wanted = ick_pieces.Wanted(ick_pieces.START, start, document.source[start:at])
     else:
         wanted = ick_pieces.wanted(document.source, document.statements[index], at)
     if wanted is None:
@@ -43,23 +40,22 @@ def squeezed(text):
 
 
 def offered(document, expected):
-    """Everything that can stand where the reader expects something: its text, its kind and what it does."""
-    if expected in ("DO or PLEASE", "the end of the statement"):
+    """Everything that can stand where something is expected: its text, its kind and what it does."""
+    if expected in (ick_pieces.START, ick_source.END):
         return [(word, KEYWORD, None) for word in STARTS]
-    if expected in ("<-", "SUB", "NEXT", "BY"):
-        return [(expected, KEYWORD, ick_explained.OPERATORS[expected][0])]
-    if expected.endswith("to close the group"):
-        return [(expected[0], KEYWORD, None)]
+    if A_WORD.fullmatch(expected):
+        return [(expected, KEYWORD, ick_explained.OPERATORS.get(expected, (None,))[0])]
+    if expected in ick_source.CLOSING:
+        return [(ick_source.CLOSING[expected], KEYWORD, None)]
     found = []
-    if expected == ick_source.ANY:
+    if expected == ick_source.BODY:
         found += [(word, KEYWORD, ick_hover.KINDS[kind][0]) for word, kind in ick_explained.BODIES.items()]
         found += [("NOT", KEYWORD, "keeps the statement from being done until a REINSTATE"), *called(document)]
-    if expected == "a gerund or a label":
+    if expected == ick_source.GERUND:
         found += [(word, KEYWORD, f"each {kind}") for kind, word in ick_explained.GERUNDS.items()]
-    if expected.startswith(("a gerund or a label", "a label")):
         found += [(f"({label})", FUNCTION, document.shown(one)) for label, one in document.program.labelled.items()]
-    found += [(name, VARIABLE, ick_explained.VARIABLES[name[0]]) for name in variables(document)
-              if name[0] in MARKS.get(expected, "")]
+    if "a variable" in expected:
+        found += [(name, VARIABLE, ick_explained.VARIABLES[name[0]]) for name in variables(document)]
     return found
 
 
@@ -72,7 +68,7 @@ def called(document):
 
 
 def variables(document):
-    """The variables that the program names, those with small numbers first."""
-    found = {(document.source[start:start + 1].replace(b"!", b".").decode(), number)
-             for one in document.statements for number, start in one.names}
+    """The variables that recognised statements name, those with small numbers first."""
+    found = {(mark.replace(b"!", b".").decode(), int(number[:9]))
+             for one in document.statements if one.read() for mark, number in NAMED.findall(one.text())}
     return [f"{mark}{number}" for mark, number in sorted(found, key=lambda it: (it[1], ".:,;".index(it[0])))]

@@ -3,7 +3,6 @@
 Places are those of the language server protocol: a line and a count of UTF-16 units, both from 0.
 """
 import bisect
-import functools
 import importlib.machinery
 import importlib.util
 import os
@@ -15,6 +14,7 @@ import ick_hover
 import ick_library
 import ick_mending
 import ick_pieces
+import ick_reasons
 import ick_source
 import ick_tool
 
@@ -81,17 +81,13 @@ class Text:
 
 
 class Document(Text):
-    """A program that an editor shows. It takes statements from the document before it, which can't be used any more."""
+    """A program that an editor shows."""
 
-    def __init__(self, uri, text, before=None):
+    def __init__(self, uri, text):
         self.uri, self.text = uri, text
         self.source, self.lines, self.is_ascii = text.source, text.lines, text.is_ascii
-        self.statements = (ick_source.cut_again(self.source, before.source, before.statements) if before else
-                           ick_source.cut(self.source))
-
-    @functools.cached_property
-    def program(self):
-        return ADVICE.Program(self.uri, self.source, self.statements)
+        self.program = ADVICE.Program(uri, ick_source.Source(self.source))
+        self.statements = self.program.statements
 
     def statement_at(self, at):
         """The statement that has a place, or that ends there."""
@@ -107,19 +103,19 @@ class Document(Text):
                 for at, text in ADVICE.look_over(self.program)]
 
     def further(self, at, text):
-        """The number of the message that an advice is about. If a statement can't be read, also where reading stops, and
-        what could have stood there.
+        """The number of the message that an advice is about. If a statement can't be read, also what was expected where
+        reading stops.
         """
         told = TOLD.match(text)
         if not told or told[1]:
             return {"code": told[1]} if told else {}
         one = self.statements[int(told[2]) - 1]
-        stop = min(one.stop, one.end)
-        place = {"uri": self.uri, "range": self.range(stop, max(stop, min(one.end, self.line_end(stop))))}
-        where = "" if stop == at else f" at line {self.line(stop)}, column {stop - self.lines[self.line(stop) - 1] + 1}"
-        more = "" if one.expected in text else f"\nReading stops{where or ' here'}, where {one.expected} could stand"
-        return {"code": "E000", "message": text + more,
-                "relatedInformation": [{"location": place, "message": f"here could stand {one.expected}"}]}
+        if one.stop is None:
+            return {"code": "E000"}
+        missing = ick_reasons.missing(one)
+        place = {"uri": self.uri, "range": self.range(one.stop, self.end_of(one.stop))}
+        return {"code": "E000", "message": text if missing in text else f"{text}\n{missing}",
+                "relatedInformation": [{"location": place, "message": missing}] if one.stop != at else []}
 
     def end_of(self, at):
         line, index = self.line_end(at), bisect.bisect_right(self.statements, at, key=lambda one: one.start)
@@ -143,7 +139,7 @@ class Document(Text):
     def named_at(self, at):
         """The variable or the label, with its places, that stands at a place or ends there."""
         one = self.statement_at(at)
-        found = [*ick_pieces.labels(self.source, one), *ick_pieces.names(self.source, one)] if one else []
+        found = [*ick_pieces.labels(one), *ick_pieces.names(one)] if one else []
         return next((it for ends in (0, 1) for it in found if it.start <= at < it.end + ends), None)
 
     def label_at(self, at):
@@ -153,13 +149,13 @@ class Document(Text):
 
     def names_of(self, name):
         """Each place where a statement names a variable."""
-        return [it for one in self.statements if ick_pieces.names_it(self.source, one, name)
-                for it in ick_pieces.names(self.source, one) if it.name == name]
+        return [it for one in self.statements if ick_pieces.names_it(one, name)
+                for it in ick_pieces.names(one) if it.name == name]
 
     def labels_of(self, label):
         """Each place where a statement names a label or has it."""
         return [it for one in self.statements if one.label == label or one.labels
-                for it in ick_pieces.labels(self.source, one) if it.label == label]
+                for it in ick_pieces.labels(one) if it.label == label]
 
     def all_of(self, named):
         """Each place of what stands at a place."""
@@ -226,7 +222,7 @@ class Document(Text):
         """PLEASE for a statement at these places, for as many as the program needs, and what it lacks of the library."""
         found, wanted = [], ick_source.wanted(self.statements)
         for one in self.statements:
-            if one.start <= end and start <= one.end and ick_source.has_identifier(one):
+            if one.start <= end and start <= one.end and one.identifier:
                 found.append(self.action("Say DO without PLEASE" if one.polite else "Say PLEASE", [one]))
         if wanted:
             chosen = ick_source.to_change(self.statements, wanted)
@@ -239,10 +235,10 @@ class Document(Text):
         """The actions by which more of a statement at these places is read: a mesh, and the end of a group."""
         found = []
         for one in self.statements:
-            if one.start <= end and start <= one.end and not one.read() and not one.abstained and ick_source.has_identifier(one):
+            if one.start <= end and start <= one.end and not one.read() and not one.abstained and one.identifier:
                 for title, lacking in (("Write the number with a mesh", ick_mending.mesh), ("Close the group", ick_mending.group_end)):
                     edits = [{"range": self.range(at, at), "newText": mark.decode()}
-                             for at, mark in ick_mending.insertions(self.source, one, lacking)]
+                             for at, mark in ick_mending.insertions(one, lacking)]
                     found += [self.change(f"{title}: {', '.join(self.mended(edits))}", edits)] if edits else []
         return found
 
@@ -261,7 +257,7 @@ class Document(Text):
             {"range": self.range(start, len(self.source)), "newText": joined[start:].decode()}])]
 
     def action(self, title, statements):
-        return self.change(title, [{"range": self.range(*ick_source.identifier(self.source, one)),
+        return self.change(title, [{"range": self.range(one.identifier.start, one.identifier.end),
                                     "newText": "DO" if one.polite else "PLEASE"} for one in statements])
 
     def change(self, title, edits):

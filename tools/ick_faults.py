@@ -87,15 +87,22 @@ MESSAGES = {
     "NO SUCH RUN": (64, "no run has the choices after --from, or they are more than the limit has steps.",
                     "Take the first word of a listed line, and list with the same program, input and --limit."),
     "TOO MANY STATES": (4, "`ick-outcomes` would have to keep more states than --most allows, 1,000,000 if it isn't given.",
-                        "Print at the end, and not at each choice: what was printed belongs to the state. Or give a --limit, "
-                        "a smaller one, or a larger --most."),
-    "TOO MUCH MEMORY": (4, "`ick-outcomes` would have to keep states of more than 2,000,000,000 bytes.",
-                        "Give a --limit, as the line says. Or print at the end: what was printed belongs to the state."),
+                        "Print at the end, and not at each choice: what was printed belongs to the state, unless --ends is "
+                        "given. Or give a --limit, a smaller one, or a larger --most."),
+    "TOO MUCH MEMORY": (4, "`ick-outcomes` would have to keep states of more bytes than --memory allows, 2,000,000,000 if "
+                           "it isn't given.",
+                        "Give a --limit or --ends, as the line says, or a larger --memory. Or print at the end: what was "
+                        "printed belongs to the state."),
     "NOT SOLVED": (4, "`ick-outcomes` found all states of the program, but not how likely each outcome is.",
                    "Give a --limit, as the line says: then the runs are weighed that end within it."),
     "LISTING TOO LONG": (4, "a listing for `ick-outcomes --asked` has at most 1,073,741,824 bytes.",
                          "Give it a part of the listing. Each line is explained by itself."),
-    "ASKED WITH EXACT OR TOTAL": (64, "`ick-outcomes --asked` prints no outcomes.", "Leave out --asked, or --exact and --total."),
+    "STATES WITH LIMIT, TOTAL OR ASKED": (64, "`ick-outcomes --states` prints the states of all runs, and nothing else.",
+                                          "Leave out --states, or --limit, --total and --asked."),
+    "MEMORY WITH LIMIT": (64, "--memory bounds the search of `ick-outcomes` without a limit.",
+                          "Leave out --memory or --limit."),
+    "ASKED WITH EXACT, TOTAL OR ENDS": (64, "`ick-outcomes --asked` prints no outcomes.",
+                                        "Leave out --asked, or --exact, --total and --ends."),
     "LINE N IS NOT OF THIS PROGRAM": (64, "a line of the listing for `ick-outcomes --asked` is no run of this program with "
                                           "this input and this limit.",
                                       "Give the program, the input and the --limit with which the listing was made."),

@@ -4,15 +4,19 @@ import re
 from typing import NamedTuple, Optional
 
 import ick_source
-from ick_source import LABEL, WHITE
+from ick_source import SPACES
 
 W = rb"[\t-\r ]*"
+WHITE = re.compile(W)
+LABEL = re.compile(rb"\(" + W + rb"([0-9]+)" + W + rb"\)")
+FROM, PLUS = re.compile(rb"FROM"), re.compile(rb"\+")
 SUFFIX = re.compile(rb"ONCE|AGAIN")
 LAST_SUFFIX = re.compile(rb"[\t-\r ]+(ONCE|AGAIN)[\t-\r ]*\Z")
 WORD = re.compile(rb"[A-Z]+|[.:#][\t-\r ]*[0-9]+|[^\t-\r ]")
 KEYWORDS = {b"FROM", b"NEXT", b"BY", b"SUB", b"WHILE", b"MAYBE", b"REINSTATE"}
 COME_FROM, TRY_AGAIN = (re.compile(words.replace(b" ", W)) for words in (b"COME FROM", b"TRY AGAIN"))
 VERB = re.compile(rb"ABSTAIN" + W + rb"FROM|REINSTATE|ABSTAIN")
+COUNTING = re.compile(COME_FROM.pattern + rb"|ABSTAIN(?!" + W + rb"FROM)")  # a verb with an expression behind it
 # the kind of the statements that a gerund names; the last ones are C-INTERCAL's
 GERUNDS = {"CALCULATING": "CALCULATE", "NEXTING": "NEXT", "FORGETTING": "FORGET", "RESUMING": "RESUME", "STASHING": "STASH",
            "RETRIEVING": "RETRIEVE", "IGNORING": "IGNORE", "REMEMBERING": "REMEMBER", "ABSTAINING": "ABSTAIN",
@@ -45,91 +49,115 @@ class Form(NamedTuple):
     expression: Optional[bytes] = None
 
 
-class Parser:
-    """Reads a body as C-INTERCAL does. The piece of the source begins with it, and ends where the next head begins."""
+class Reading:
+    """Reads a body as C-INTERCAL does. The text of its statement ends where the next head begins."""
 
-    def __init__(self, source, start, end, kind=ick_source.Reader):
-        self.source, self.start, self.kind = source, start, kind
-        self.text, self.moved = ick_source.without_wows(source[start:end])
-        self.reader = None
+    def __init__(self, source, statement, end):
+        self.source, self.statement, self.end = source, statement, end
 
     def form(self):
         """The form of the body, or None if C-INTERCAL can't read it either, as far as these statements go."""
         for reading in (self.come_from, self.try_again, self.abstention, self.native):
-            self.reader = self.kind(self.text)
             try:
                 kind, at, found = reading()
-            except ick_source.Unread:
+            except Unread:
                 continue
-            suffix = SUFFIX.match(self.text, self.white(at))
+            suffix = self.found(SUFFIX, at)
             after = suffix.end() if suffix else at
-            rest = self.text[after:].strip(ick_source.SPACES)
+            rest = self.source[after:self.end].strip(SPACES)
             if not rest or LABEL.fullmatch(rest):
-                return Form(kind, self.place(at), self.place(after), suffix[0] if suffix else b"", **found)
+                return Form(kind, at, after, suffix[0] if suffix else b"", **found)
         return None
 
-    def place(self, at):
-        return self.start + self.moved(at)
+    def found(self, pattern, at):
+        """What a pattern finds behind white bytes, or None."""
+        return pattern.match(self.source, WHITE.match(self.source, at, self.end).end(), self.end)
 
-    def white(self, at):
-        return WHITE.match(self.text, at).end()
-
-    def match(self, pattern, at=0):
-        found = pattern.match(self.text, self.white(at))
+    def match(self, pattern, at):
+        found = self.found(pattern, at)
         if not found:
-            raise ick_source.Unread(at, pattern.pattern)
+            raise Unread
         return found
 
     def come_from(self):
-        at = self.white(self.match(COME_FROM).end())
-        label = LABEL.match(self.text, at)
+        verb = self.match(COME_FROM, self.statement.body)
+        label = self.found(LABEL, verb.end())
         if label:
             return "COME-FROM", label.end(), {"label": self.labelled(label)}
-        return "COME-FROM", *self.expression(at)
+        return "COME-FROM", *self.expression(verb.end())
 
     def expression(self, at):
-        end = self.reader.whole(at)
-        return end, {"expression": self.source[self.place(at):self.place(end)]}
+        """The end of the expression behind a verb, and the expression."""
+        one = ick_source.cut(counted(self.source, self.statement, self.end))[0]
+        end = self.statement.start + end_of(one)
+        return end, {"expression": self.source[WHITE.match(self.source, at).end():end]}
 
-    def labelled(self, found):
-        return ick_source.value(found[1]), self.place(found.start(1))
+    @staticmethod
+    def labelled(found):
+        return ick_source.value(found[1], 0), found.start(1)
 
     def try_again(self):
-        return "TRY-AGAIN", self.match(TRY_AGAIN).end(), {}
+        return "TRY-AGAIN", self.match(TRY_AGAIN, self.statement.body).end(), {}
 
     def abstention(self):
-        verb = self.match(VERB)
+        verb = self.match(VERB, self.statement.body)
         kind = "REINSTATE" if verb[0] == REINSTATE else "ABSTAIN"
         at, found = verb.end(), {"verb": REINSTATE if verb[0] == REINSTATE else ABSTAIN}
         if verb[0] == b"ABSTAIN":
-            at, count = self.expression(self.white(at))
-            at = self.reader.expect(at, b"FROM")
+            at, count = self.expression(at)
+            at = self.match(FROM, at).end()
             found.update(count)
-        label = LABEL.match(self.text, self.white(at))
+        label = self.found(LABEL, at)
         if label:
             return kind, label.end(), {**found, "label": self.labelled(label)}
-        found["kinds"] = []
-
-        def gerund(at):
-            word = self.match(GERUND, at)
-            found["kinds"].append(KINDS[b"".join(word[0].split()).decode()])
-            return word.end()
-        return kind, self.reader.separated(at, gerund), found
+        gerund = self.match(GERUND, at)
+        gerunds = [gerund]
+        while plus := self.found(PLUS, gerund.end()):
+            gerund = self.match(GERUND, plus.end())
+            gerunds.append(gerund)
+        return kind, gerund.end(), {**found, "kinds": [KINDS[b"".join(one[0].split()).decode()] for one in gerunds]}
 
     def native(self):
-        at, kind = self.reader.body(0)
-        return kind, at, {}
+        """A body of this language, perhaps in front of a suffix."""
+        one, end = self.statement, end_of(self.statement)
+        if not one.read() and not self.found(SUFFIX, end):
+            raise Unread
+        return one.kind if one.read() else ick_source.cut(self.source[one.start:end])[0].kind, end, {}
+
+
+class Unread(Exception):
+    """C-INTERCAL can't read a body so."""
+
+
+def counted(source, statement, end):
+    """A statement with FORGET for the verb of a COME FROM or an ABSTAIN, so that ick-stages reads the expression. All places
+    stay.
+    """
+    verb = COUNTING.match(source, statement.body)
+    text = source[statement.start:end]
+    if verb:
+        start, behind = verb.start() - statement.start, verb.end() - statement.start
+        text = text[:start] + b"FORGET".ljust(behind - start) + text[behind:]
+    return text
+
+
+def end_of(one):
+    """Where the body of a statement ends that is whole, whatever follows it."""
+    if not one.read() and one.expected != ick_source.END:
+        raise Unread
+    return one.start + len(one.source[one.start:one.end if one.read() else one.stop].rstrip(SPACES))
 
 
 class Part:
-    """A statement of the source: its form, the label that ABSTAIN names for it, its count, and what it becomes.
+    """A statement of the source: its form, its places, the label that ABSTAIN names for it, its count, and what it becomes.
 
     new_label is the label that it gets in front. lines are the statements in its place, or None if it stays. behind, after
     and last follow it, in this order.
     """
 
-    def __init__(self, source, statement, form):
-        self.statement, self.form, self.kind, self.label = statement, form, form.kind, statement.label
+    def __init__(self, source, statement, form, start, label):
+        self.statement, self.form, self.kind, self.start, self.label = statement, form, form.kind, start, label
+        self.end = max(statement.end, form.after)
         self.new_label, self.state, self.count, self.place = None, None, None, None
         self.lines, self.behind, self.after, self.last = None, [], [], []
         self.body = source[statement.body:form.end]
@@ -147,26 +175,28 @@ class Part:
 
 def parts_of(source, wanted):
     """The statements of a source with their forms. Only the wanted options let a form of C-INTERCAL be read."""
-    statements, parts = ick_source.cut(source), []
+    statements, parts, taken = ick_source.cut(source), [], 0
     for statement, following in itertools.zip_longest(statements, statements[1:]):
-        end = len(source)
-        if following:
-            label = LABEL.match(source, following.start)
-            end = label.end() if label else following.start
-        form = form_of(source, statement, end, wanted)
-        if form.after > statement.end:  # the label that ends it isn't the next statement's
-            statement.end = form.after
-            if following:
-                following.label, following.start = None, WHITE.match(source, end).end()
-        parts.append(Part(source, statement, form))
+        end = end_of_text(source, following)
+        # a label that ends the statement in front isn't this one's
+        start, label = (statement.identifier.start, None) if statement.start < taken else (statement.start, statement.label)
+        parts.append(Part(source, statement, form_of(source, statement, end, wanted), start, label))
+        taken = parts[-1].end
     return parts
+
+
+def end_of_text(source, following):
+    """Where the text ends in which C-INTERCAL may find a statement: behind the label of the statement that follows."""
+    if following is None:
+        return len(source)
+    return following.head["label"].end if following.label is not None else following.start
 
 
 def form_of(source, statement, end, wanted):
     """The form of a statement, whose text with a label that may end it goes up to `end`."""
     plain, suffix = Form(statement.kind, statement.end, statement.end), None
     if not statement.read() or statement.kind in ("ABSTAIN", "REINSTATE"):
-        form = Parser(source, statement.body, end).form()
+        form = Reading(source, statement, end).form()
         if form:
             return form if needed(form) <= wanted else plain
     if not statement.read() and "--once" in wanted:

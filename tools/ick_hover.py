@@ -1,12 +1,12 @@
 """What an editor shows of the place under the pointer: a message's number, a variable, a label, an operator, a statement."""
 import collections
-import functools
 import re
 import subprocess
 
 import ick_explained
 import ick_library
 import ick_pieces
+import ick_source
 import ick_tool
 from ick_faults import FAULTS
 
@@ -103,7 +103,7 @@ def label(document, named):
 
 def piece(document, one, at):
     """What an operator, a mesh, a group or a gerund at a place means, or None."""
-    found = [it for it in ick_pieces.pieces(document.source, one) if it.start <= at < it.end]
+    found = [it for it in ick_pieces.pieces(one) if it.start <= at < it.end]
     for kind, start, end in found[-1:]:
         text = "".join(document.source[start:end].decode("latin-1").split())
         if kind == "operator" and text in ick_explained.OPERATORS:
@@ -123,22 +123,11 @@ def gerund(document, text):
     return f"**{ick_explained.GERUNDS[kind]}** means each `{kind}`: " + (lines(document, places) if places else "none") + "."
 
 
-@functools.cache
-def program():
-    """The path of ick-stages, or None if there is none."""
-    try:
-        return ick_tool.find_program("ick-stages")
-    except FileNotFoundError:
-        return None
-
-
 def stages(source, one):
-    """How many operations a statement has, and its instructions, as ick-stages shows them. Nothing is said if there is no
-    ick-stages, or if it refuses the program.
+    """How many operations a statement has, and its instructions, as ick-stages shows them. Nothing is said if it refuses
+    the program.
     """
-    if program() is None:
-        return
-    words = [program(), "--operations", "--instructions", "--statement", str(one.number)]
+    words = [ick_source.program(), "--operations", "--instructions", "--statement", str(one.number)]
     try:
         asked = subprocess.run(words, input=source, capture_output=True, timeout=STAGES_SECONDS, check=False)
     except (OSError, subprocess.TimeoutExpired):

@@ -13,6 +13,7 @@ import ick_tool
 PLACES = ("../library", "../../share/ick/library")  # in the repository, and as it is installed
 NAMES = ("text.i", "arithmetic.i")
 LABELS = frozenset(range(1000, 2000))  # a set, because None is looked up in a range by going through it
+LABEL = re.compile(rb"^\(([0-9]+)\)", re.MULTILINE)
 FAULT = 1999  # labels the statement by which a routine ends the program
 LINE = b"DO NOTE: BELOW IS WHAT THIS PROGRAM CALLS OF THE LIBRARY"
 
@@ -57,8 +58,8 @@ def routines(source):
 
 @functools.lru_cache(maxsize=None)
 def labels():
-    """Returns the labels that the library's routines have."""
-    return frozenset(label for source in files() for routine in routines(source) for label in routine.labels)
+    """Returns the labels that the library's routines have. Each of them begins a line."""
+    return frozenset(int(label) for source in files() for label in LABEL.findall(source))
 
 
 def own(source):
@@ -94,6 +95,5 @@ def joined(source, library):
     statements = ick_source.cut(text)
     pasted = [one for one in statements if one.start >= len(head)]
     for one in reversed(ick_source.to_change(pasted, ick_source.wanted(statements))):
-        start, end = ick_source.identifier(text, one)
-        text = text[:start] + (b"DO" if one.polite else b"PLEASE") + text[end:]
+        text = text[:one.identifier.start] + (b"DO" if one.polite else b"PLEASE") + text[one.identifier.end:]
     return text

@@ -1,7 +1,7 @@
 """Insertions by which ick reads more of a statement that it can't read: a mesh in front of a number, the end of a group."""
 import ick_source
 
-MOST = 50  # insertions. Each of them cuts the statement anew
+MOST = 50  # insertions. Behind each of them the statement is read anew
 
 
 def mesh(statement, text):
@@ -11,17 +11,14 @@ def mesh(statement, text):
 
 def group_end(statement, _):
     """The mark that closes the group in which reading stopped."""
-    return statement.expected[0].encode() if statement.expected.endswith("to close the group") else b""
+    return ick_source.CLOSING.get(statement.expected, "").encode()
 
 
-def insertions(source, statement, lacking):
+def insertions(statement, lacking):
     """The insertions, each a place and marks, after which reading comes further. `lacking` says what a statement lacks."""
-    text, found = source[statement.start:statement.end], []
-    for _ in range(MOST):
-        one = ick_source.cut(text)[0]
-        mark = b"" if one.read() else lacking(one, text)
-        if not mark:
-            break
+    text, found = statement.text(), []
+    one = ick_source.cut(text)[0]
+    while len(found) < MOST and not one.read() and (mark := lacking(one, text)):
         further = text[:one.stop] + mark + text[one.stop:]
         again = ick_source.cut(further)[0]
         if not again.read() and again.stop < one.stop + len(mark):
@@ -30,5 +27,5 @@ def insertions(source, statement, lacking):
         if found and found[-1][0] == place:
             mark = found.pop()[1] + mark
         found.append((place, mark))
-        text = further
+        text, one = further, again
     return found

@@ -4,6 +4,7 @@ import re
 
 import ick_source
 
+SHOWN = 40  # characters in front of the place where reading stopped
 ELSEWHERE = "is C-INTERCAL's, and not in this language"
 COME_FROM = f"COME FROM {ELSEWHERE}: ick-convert --come-from rewrites it"
 OTHER_COME_FROM = f"COME FROM {ELSEWHERE}: ick-convert --all rewrites it if it begins with its label or expression"
@@ -26,7 +27,6 @@ BODIES = (
     (r"COME\s*FROM\s*(\(\s*\d+\s*\)\s*|[.:,;#'\"!][^A-Z]*(SUB[^A-Z]*)*)?$", COME_FROM),
     (r"COME\s*FROM", OTHER_COME_FROM),
     (r"(\(\s*\d+\s*\)\s*)?NEXT\s*FROM", f"NEXT FROM {ELSEWHERE}"),
-    (r"ABSTAIN\s*[#.:,;'\"!]", f"ABSTAIN with a count {ELSEWHERE}: ick-convert --abstain rewrites it"),
     (r"TRY\s*AGAIN", f"TRY AGAIN {ELSEWHERE}: ick-convert --again rewrites it"),
     (r"GO\s*(BACK|AHEAD)", f"backtracking {ELSEWHERE}"),
     (r"CREATE", f"CREATE {ELSEWHERE}"),
@@ -41,6 +41,7 @@ BODIES = (
 STOPS = (
     (r"", r"(ONCE|AGAIN)\b", "ONCE and AGAIN are C-INTERCAL's: ick-convert --once rewrites them"),
     (r"", r"MAYBE\b", f"MAYBE {ELSEWHERE}"),
+    (r"^ABSTAIN\s*$", r"[#.:,;'\"!]", f"ABSTAIN with a count {ELSEWHERE}: ick-convert --abstain rewrites it"),
     (r"", r"COME\s*FROM", OTHER_COME_FROM),
     (r"", r"WHILE\b", f"WHILE {ELSEWHERE}"),
     (r"", r".?\x08", "overstruck marks aren't read: ick-convert rewrites them"),
@@ -58,7 +59,7 @@ STOPS = (
     (r"^READ\s*OUT.*$", r"[\"']?\s*([A-Za-z]{2}|[A-UW-Za-z])", "READ OUT takes no text: ick-say makes statements that print one"),
     (r"^READ\s*OUT.*$", r"[\"'~$&V?]", "READ OUT takes no expression: calculate a variable first"),
     (r"^(READ\s*OUT|WRITE\s*IN).*;.*$", r"", "a hybrid can't be read or written whole: name an element, or use a tail"),
-    (r"^(READ|WRITE|STASH|RETRIEVE|IGNORE|REMEMBER|ABSTAIN|REINSTATE).*$", r",", "a list is written with +"),
+    (r"^(READ\s*OUT|WRITE\s*IN|STASH|RETRIEVE|IGNORE|REMEMBER|ABSTAIN\s*FROM|REINSTATE).*$", r",", "a list is written with +"),
     (r"^(ABSTAIN\s*FROM|REINSTATE)", r"[A-Z]", "no gerund begins so"),
 )
 
@@ -86,39 +87,35 @@ def elsewhere(source, statement):
             yield statement.body + found.start(), reason
 
 
-def why(source, statement):
+def why(statement):
     """The place where an unrecognised statement goes wrong, and what is wrong there."""
+    source, stop = statement.source, statement.stop
     body = source[statement.body:statement.end].decode("latin-1")
     if SMALL.search(body) and not re.search(r"[A-Z]{2}", body):
         return statement.start, "small letters are no letters of the language: write capitals, or use ick-convert"
-    rest = source[statement.stop:statement.end].decode("latin-1")
-    if statement.expected in ("DO or PLEASE", "the end of the statement") and re.fullmatch(r"\d+", rest):
-        return statement.stop, f"a label is written in parentheses, as ({rest})"
-    if statement.expected == "DO or PLEASE":
+    rest = source[statement.body if stop is None else stop:statement.end].decode("latin-1")
+    if (stop is None or statement.expected == ick_source.END) and re.fullmatch(r"\d+", rest):
+        return statement.end - len(rest), f"a label is written in parentheses, as ({rest})"
+    if stop is None:
         return statement.start, "what stands in front of the first DO or PLEASE is a statement of its own"
-    if statement.stop == statement.body:
+    if stop == statement.body:
         for pattern, reason in BODIES:
             if re.match(pattern, body):
-                return statement.stop, reason
+                return stop, reason
         for word in re.findall(r"[A-Z]+", body)[:1]:
             near = difflib.get_close_matches(word, WORDS, 1, 0.7)
             if near and near[0] != word:
-                return statement.stop, f"{word} is no word of this language; {near[0]} is"
-        if statement.expected == ick_source.ANY:
-            return statement.stop, "no statement of this language begins so"
-    return stopped(source, statement)
+                return stop, f"{word} is no word of this language; {near[0]} is"
+        if statement.expected == ick_source.BODY:
+            return stop, "no statement of this language begins so"
+    before = source[statement.body:stop].decode("latin-1")
+    return stop, next((reason for behind, here, reason in STOPS
+                       if re.match(here, rest) and re.search(behind, before, re.DOTALL)), missing(statement))
 
 
-def stopped(source, statement):
-    """What is wrong at the place where reading stopped."""
-    before = source[statement.body:statement.stop].decode("latin-1")
-    after = source[statement.stop:max(statement.stop, statement.end)].decode("latin-1")
-    for behind, here, reason in STOPS:
-        if re.match(here, after) and re.search(behind, before, re.DOTALL):
-            return statement.stop, reason
-    if not after and statement.opened is not None:
-        mark = chr(source[statement.opened])
-        return statement.opened, f"the group that {mark} opens here isn't closed"
-    if not after:
-        return statement.start, f"{statement.expected} is missing at its end"
-    return statement.stop, f"reading stops here, where {statement.expected} is expected"
+def missing(statement):
+    """What was expected where reading stopped, and behind which text."""
+    before = statement.source[statement.start:statement.stop].decode("utf-8", "replace")
+    text = " ".join(re.sub("[^ -~]+", " ", before).split())
+    wanted, colon, more = statement.expected.partition(":")
+    return f"after `{'..' * (len(text) > SHOWN)}{text[-SHOWN:]}` {wanted} was expected{colon}{more}"

@@ -61,8 +61,8 @@ class Fresh:
     """Gives labels and variables that a source doesn't have."""
 
     def __init__(self, source):
-        labels = {ick_source.value(found[1]) for found in ick_source.LABEL.finditer(source)}
-        variables = {ick_source.value(number) for number in re.findall(rb"[.:!][\t-\r &V?]*([0-9]+)", source)}
+        labels = {ick_source.value(found[1], 0) for found in ick_foreign.LABEL.finditer(source)}
+        variables = {ick_source.value(number, 0) for number in re.findall(rb"[.:!][\t-\r &V?]*([0-9]+)", source)}
         self.labels = (label for label in range(ick_source.GREATEST, 0, -1)
                        if label not in labels and not any(label in labels for labels in LIBRARIES))
         self.variables = (number for number in range(ick_source.GREATEST, 0, -1) if number not in variables)
@@ -160,12 +160,12 @@ class Rewriting:
             target = part.form.label[0]
             if target not in self.labelled:
                 first = ": use ick-join first" if any(target in labels for labels in LIBRARIES) else ""
-                reasons.append((part, part.statement.start, f"no statement has the label ({target}){first}"))
+                reasons.append((part, part.start, f"no statement has the label ({target}){first}"))
             elif known.setdefault(target, part) is not part:
-                reasons.append((part, part.statement.start, f"a second COME FROM ({target}) makes threads"))
+                reasons.append((part, part.start, f"a second COME FROM ({target}) makes threads"))
         for part in self.parts:
             if part.form.expression and part.form.label and not self.targets(part.form):
-                reasons.append((part, part.statement.start, f"no statement has the label ({part.form.label[0]})"))
+                reasons.append((part, part.start, f"no statement has the label ({part.form.label[0]})"))
             if part.kind == "UNRECOGNISED":
                 reasons += [(part, at, why) for at, why in self.foreign(part)]
         if reasons:
@@ -176,7 +176,7 @@ class Rewriting:
         found = list(ick_reasons.elsewhere(self.source, part.statement))
         is_come_from = "--come-from" in self.wanted and ick_foreign.COME_FROM.match(part.body)
         if is_come_from and not found and not part.statement.abstained:
-            return [(part.statement.start, "this COME FROM has neither a label nor an expression")]
+            return [(part.start, "this COME FROM has neither a label nor an expression")]
         return found if is_come_from or self.wanted >= ick_foreign.ALL else []
 
     def rewrite(self):
@@ -258,7 +258,7 @@ class Rewriting:
         bodies = [body for target in targets for body in self.changes(target, form.verb, bool(form.expression))]
         if form.expression:
             bodies.insert(0, b".%d <- %s" % (self.counts.count, self.masked(form.expression)))
-        self.tell(part.statement.start, "the list is one of labels now" if form.kinds else "ABSTAIN has other labels now")
+        self.tell(part.start, "the list is one of labels now" if form.kinds else "ABSTAIN has other labels now")
         part.lines = self.done_if(part, bodies or [b"FORGET #0"])
 
     def done_if(self, part, bodies):
@@ -281,14 +281,14 @@ class Rewriting:
         else:
             part.lines = part.lines or [Line(self.masked(part.body), None, part.qualifiers())]
             part.behind += self.own_changes(part)
-        self.tell(part.statement.start,
+        self.tell(part.start,
                   f"{suffix} is {'ABSTAIN FROM' if part.abstains_itself() else 'REINSTATE'} ({self.state(part)}) now")
 
     def again(self, part):
         """Makes TRY AGAIN a jump to the first statement. ONCE and AGAIN do nothing behind it in C-INTERCAL either."""
         self.top = self.top or self.fresh.label()
         part.lines, part.last = [Line(b"(%d) NEXT" % self.top, None, part.qualifiers())], [Line(b"GIVE UP")]
-        self.tell(part.statement.start, f"TRY AGAIN is ({self.top}) NEXT now")
+        self.tell(part.start, f"TRY AGAIN is ({self.top}) NEXT now")
 
     # COME FROM
 
@@ -302,7 +302,7 @@ class Rewriting:
         part.lines.append(Line(b"FORGET #1", part.place))
         target.after.append(Line(b"(%d) NEXT" % entry, part.state, part.qualifiers()))
         target.after += changes
-        self.tell(part.statement.start,
+        self.tell(part.start,
                   f"COME FROM ({target.label}) is ({entry}) NEXT behind ({target.label}) now")
 
     def computed_come_froms(self):
@@ -318,9 +318,10 @@ class Rewriting:
                 Line(b":%d <- %s" % (value, self.masked(part.form.expression)), begin),
                 Line(b":%d <- \"'?':%d~#65535'$.%d'~'#0$#65535'\"$\":%d~'#65280$#65280'\"" % (value, value, number, value)),
                 Line(b"(%d) NEXT" % unequal), Line(b"FORGET #1"), Line(b"FORGET #1", part.place), *changes]
-            named = [label for label in self.labelled if ick_widths.may_be(part.form.expression, label)]
+            width = ick_widths.width_of(part.form.expression)
+            named = [label for label in self.labelled if width.may_be(label)]
             calls.update((label, self.labelled[label]) for label in named)
-            self.tell(part.statement.start, f"COME FROM is a test behind {len(named)} labels now")
+            self.tell(part.start, f"COME FROM is a test behind {len(named)} labels now")
         self.routines.append(Line(b"RESUME #1"))
         for label, target in calls.items():
             target.after += [Line(b".%d <- #%d" % (number, label)), Line(b"(%d) NEXT" % called)]
@@ -338,11 +339,11 @@ class Rewriting:
         """The new text. `do` gives the identifier of each statement that it adds."""
         parts, at = [], 0
         if self.top:
-            start = next(part.statement for part in self.parts if part.statement.expected != "DO or PLEASE").start
+            start = next(part.start for part in self.parts if part.statement.identifier)
             lines = [*self.begin, Line(b"(%d) NEXT" % self.top), *self.routines, Line(b"FORGET #1", self.top)]
             parts, at = [self.source[:start], *(line.text(do) + b"\n" for line in lines)], start
         for part in self.parts:
-            start, end = part.statement.start, part.statement.end
+            start, end = part.start, part.end
             label = part.label or part.new_label
             texts = [line.text(do) for line in part.behind + part.after + part.last]
             if part.lines:

@@ -16,15 +16,23 @@ import time
 # answers to an argument over an empty source.
 PROGRAMS = {
     "ick": ("ICK", (), "check", b"0 STATEMENTS, 0 POLITE\n"),
-    "ick-outcomes": ("ICK_OUTCOMES", ("outcomes",), "--total", b"1 OUTCOMES, 1 RUNS\n"),
+    "ick-outcomes": ("ICK_OUTCOMES", ("outcomes",), "--total", b"1 OUTCOME, 1 RUN\n"),
     "ick-step": ("ICK_STEP", ("step",), "-b", b"0 1 past the last statement\n"),
-    "ick-stages": ("ICK_STAGES", ("stages",), "--tree", b"DONE\n"),
+    "ick-stages": ("ICK_STAGES", ("stages",), "--parts", b"DONE\n"),
 }
 HERE = os.path.dirname(os.path.realpath(__file__))
 NAME = os.path.basename(sys.argv[0])
 PREVIEW = os.path.normpath(os.path.join(HERE, "../preview"))
 PAUSE = 0.3  # seconds between two lines of progress
 ERASE = "\r\033[K"  # what erases the line of a terminal
+
+
+class Unable(Exception):
+    """What a tool can't do, in words, and its exit status then."""
+
+    def __init__(self, text, status):
+        super().__init__(text)
+        self.status = status
 
 
 def open_closed_streams():
@@ -66,6 +74,9 @@ def run(main):
             status = main()
         except SystemExit as ended:
             status = ended.code
+        except Unable as unable:
+            say(unable)
+            status = unable.status
         sys.stdout.flush()
     except OSError as error:
         with contextlib.suppress(OSError):

@@ -33,6 +33,10 @@ class Width(NamedTuple):
         """The number of a constant, or None."""
         return self.sure if self.sure == self.possible else None
 
+    def may_be(self, number):
+        """Whether the operand can have a number as its value, as far as its constants tell."""
+        return not number & ~self.possible and not self.sure & ~number
+
 
 def mingle(left, right):
     return sum((left >> place & 1) << 2 * place + 1 | (right >> place & 1) << 2 * place for place in range(16))
@@ -44,30 +48,55 @@ def select(left, right):
 
 
 def unary(operator, possible, sure, width):
-    """The possible and the sure bits of a unary operator's result."""
+    """The possible and the sure bits of a unary operator's result. Of an operator that isn't known here no bit is."""
     rotated = [bits >> 1 | (bits & 1) << width - 1 for bits in (possible, sure)]
     if operator == b"&":
         return possible & rotated[0], sure & rotated[1]
     if operator == b"V":
         return possible | rotated[0], sure | rotated[1]
-    unknown, ones = possible ^ sure | rotated[0] ^ rotated[1], sure ^ rotated[1]
-    return ones | unknown, ones & ~unknown
+    if operator == b"?":
+        unknown, ones = possible ^ sure | rotated[0] ^ rotated[1], sure ^ rotated[1]
+        return ones | unknown, ones & ~unknown
+    return (1 << width) - 1, 0
 
 
-class Reader(ick_source.Reader):
-    """Reads a recognised body, and keeps its doubts. `width` is that of the part that was read last."""
+class Operand(NamedTuple):
+    """An operand that was met, and where it begins."""
 
-    def __init__(self, text):
-        super().__init__(text)
-        self.width, self.doubts = None, []
+    width: Width
+    start: int
 
-    def expression(self, at, mark, depth):
-        at, _ = self.operand(at, mark, depth)
-        left, (after, operator) = self.width, self.next(at)
-        if operator and operator in b"~$":
-            at, _ = self.expression(after + 1, mark, depth)
-            self.width = self.joined(operator, left, self.width)
-        return at, 0
+
+class Operands:
+    """The operands of a recognised statement, which each operation takes and gives. `doubts` are those of its groups."""
+
+    def __init__(self, one):
+        self.source, self.stack, self.operators, self.doubts, self.last = one.source, [], [], [], None
+        for mark in one.marks:
+            self.meet(mark)
+
+    def meet(self, mark):
+        kind, start, end = mark
+        if kind == "operator":
+            self.operators.append(mark)
+        elif kind in ("variable", "element"):
+            while kind == "element" and self.stack and self.stack[-1].start > start:
+                self.stack.pop()
+            self.push(variable(32 if self.source[start:start + 1] in b":;" else 16), start)
+        elif kind == "mesh":
+            number = ick_source.value(self.source, start) & 65535
+            self.push(Width(16, 16, number, number), start)
+        elif kind == "unary":
+            operator = self.operators.pop()
+            doubt = Doubt(start, operator.end, end - 1)
+            self.push(self.under(self.source[operator.start:operator.end], self.stack.pop().width, doubt), start)
+        elif kind == "binary":
+            right, left, operator = self.stack.pop().width, self.stack.pop().width, self.operators.pop()
+            self.push(self.joined(self.source[operator.start:operator.end], left, right), start)
+
+    def push(self, width, start):
+        self.last = width
+        self.stack.append(Operand(width, start))
 
     def joined(self, operator, left, right):
         number = right.number()
@@ -80,23 +109,6 @@ class Reader(ick_source.Reader):
             self.doubts.remove(left.doubt)
         ours = 32 if bin(number).count("1") > 16 else 16
         return Width(right.theirs, ours, select(left.possible, number), select(left.sure, number))
-
-    def element(self, start, mark, depth):
-        end, _ = super().element(start, mark, depth)
-        self.width = variable(16 if self.text[start:start + 1] == b"," else 32)
-        return end, 0
-
-    def simple(self, start, first, depth):
-        end, _ = super().simple(start, first, 0)
-        at, operator = self.next(start + 1)
-        if first in b".:":
-            self.width = variable(16 if first == b"." else 32)
-        if first == b"#":
-            number = self.meshes[-1][0] & 65535
-            self.width = Width(16, 16, number, number)
-        if operator in b"&V?":
-            self.width = self.under(operator, self.width, Doubt(start, at + 1, end - 1))
-        return end, 0
 
     def under(self, operator, width, doubt):
         """The width of an operand with a unary operator in front."""
@@ -111,27 +123,19 @@ def variable(width):
     return Width(width, width, (1 << width) - 1)
 
 
-def may_be(expression, number):
-    """Whether an expression can have a number as its value, as far as its constants tell."""
-    reader = Reader(ick_source.without_wows(expression)[0])
-    reader.whole(0)
-    return not number & ~reader.width.possible and not reader.width.sure & ~number
+def width_of(expression):
+    return Operands(ick_source.cut(b"DO FORGET " + expression)[0]).last
 
 
-def doubts(source):
-    """Yields each doubt of a source, with the number of its statement."""
-    text, moved = ick_source.without_wows(source)
-    for statement in ick_source.cut(text):
-        if statement.read():
-            reader = Reader(text)
-            reader.body(statement.body)
-            yield from ((statement.number, Doubt(*map(moved, doubt))) for doubt in reader.doubts)
+def doubts(one):
+    """The doubts of a statement."""
+    return Operands(one).doubts if b"~" in one.text() and one.read() else []
 
 
 def masked(source, tell):
     """The source with a mask of 32 ones around each operand in doubt. `tell` takes a place and what is changed there."""
     added = []
-    for _, doubt in doubts(source):
+    for doubt in (doubt for one in ick_source.cut(source) for doubt in doubts(one)):
         mark = source[doubt.at:doubt.at + 1]
         other = b"\"" if mark == b"'" else b"'"
         # subscripts in the operand may begin with the other mark

@@ -9,7 +9,7 @@ const WAY_OUT = ': ick-convert --come-from rewrites it';
 const within = (label, [least, most]) => label >= least && label <= most;
 const SMALL_LETTERS =
   /\b(do|please|forget|resume|stash|retrieve|ignore|remember|abstain|reinstate|give|write|read|next)\b/;
-const isRead = (statement) => statement.kind !== 'UNRECOGNISED';
+const SHOWN_BEFORE = 40; // characters in front of the place where reading stopped
 const mayBeDone = (statement) => !statement.abstained && statement.chance > 0;
 
 // Returns how alike two words are, from 0 to 1: twice the letters in common blocks, by the letters of both.
@@ -42,9 +42,10 @@ class Advice {
     this.begins = front([...words.slice(0, 13), ...words.slice(16)].join('|'));
   }
 
-  // Returns what is found in a program, in order of the places: each a place and a text.
-  of(source) {
-    Object.assign(this, { source, found: [], explained: new Set(), statements: cut(source), labelled: new Map() });
+  // Returns what is found in a program, in order of the places: each a place and a text. The lines are those of ick-stages.
+  of(source, lines) {
+    const { statements, refusals } = readSource(source, lines);
+    Object.assign(this, { source, statements, refused: refusals, found: [], explained: new Set(), labelled: new Map() });
     this.ends = [...source.matchAll(/\n/g)].map(({ index }) => index);
     for (const statement of this.statements) {
       if (statement.label !== null && !this.labelled.has(statement.label)) this.labelled.set(statement.label, statement);
@@ -88,8 +89,8 @@ class Advice {
 
   refusals() {
     const lacking = [], library = this.isJoinable() ? this.library : new Set();
-    for (const [number, statement, at] of refusalsOf(this.statements)) {
-      const label = statement.labels.find(([, place]) => place >= at)?.[0] ?? null;
+    for (const [number, statement, at] of this.refused) {
+      const [label = null] = statement.labels;
       if ((number === 129 || number === 139) && library.has(label)) lacking.push([at, label]);
       else this.tell(at, `refused, E${String(number).padStart(3, '0')}: ${this.refusal(number, statement, at, label)}`);
     }
@@ -155,11 +156,9 @@ class Advice {
 
   // Tells of each select in these statements whose width C-INTERCAL fixes, if a unary operator shows it.
   widths(numbers) {
-    for (const { number, at, start } of doubtsIn(this.source)) {
-      if (numbers.has(number)) {
-        this.tell(at, `the operand of ${this.source[start - 1]} has 16 bits if its select takes at most 16; in C-INTERCAL `
-          + 'it has 32: ick-convert --widths');
-      }
+    for (const { at, start } of this.statements.filter(({ number }) => numbers.has(number)).flatMap(doubtsIn)) {
+      this.tell(at, `the operand of ${this.source[start - 1]} has 16 bits if its select takes at most 16; in C-INTERCAL `
+        + 'it has 32: ick-convert --widths');
     }
   }
 
@@ -170,9 +169,9 @@ class Advice {
     const body = (it) => this.source.slice(it.body, it.end);
     const text = done.find((it) => it.kind === 'READ-OUT' && TEXT.test(body(it)));
     const call = text && done.find((it) => it.number > text.number && it.kind === 'NEXT'
-      && WRITERS.includes(it.labels[0][0]));
+      && WRITERS.includes(it.labels[0]));
     if (call && !own.some((it) => LAST_BYTE.test(body(it)))) {
-      this.tell(text.start, `(${call.labels[0][0]}) writes wrong bytes after this text, unless .1610 has its last byte: `
+      this.tell(text.start, `(${call.labels[0]}) writes wrong bytes after this text, unless .1610 has its last byte: `
         + 'ick-say --library writes both');
     }
   }
@@ -229,19 +228,28 @@ class Advice {
     if (SMALL_LETTERS.test(body) && !/[A-Z]{2}/.test(body)) {
       return [statement.start, 'small letters are no letters of the language: write capitals, or use ick-convert'];
     }
-    const rest = this.source.slice(statement.stop, statement.end);
-    if (['DO or PLEASE', 'the end of the statement'].includes(statement.expected) && /^\d+$/.test(rest)) {
-      return [statement.stop, `a label is written in parentheses, as (${rest})`];
+    const { stop, expected, end } = statement, rest = this.source.slice(stop ?? statement.body, end);
+    if ((stop === null || expected === END) && /^\d+$/.test(rest)) {
+      return [end - rest.length, `a label is written in parentheses, as (${rest})`];
     }
-    if (statement.expected === 'DO or PLEASE') {
+    if (stop === null) {
       return [statement.start, 'what stands in front of the first DO or PLEASE is a statement of its own'];
     }
-    if (statement.stop === statement.body) {
+    if (stop === statement.body) {
       const reason = this.bodies.find(([pattern]) => pattern.test(body))?.[1] ?? this.nearWord(body);
-      if (reason) return [statement.stop, reason];
-      if (statement.expected === ANY) return [statement.stop, 'no statement of this language begins so'];
+      if (reason) return [stop, reason];
+      if (expected === BODY) return [stop, 'no statement of this language begins so'];
     }
-    return this.stopped(statement);
+    const before = this.source.slice(statement.body, stop);
+    const reason = this.stops.find(([behind, here]) => here.test(rest) && behind.test(before))?.[2];
+    return [stop, reason ?? this.missing(statement)];
+  }
+
+  // What was expected where reading stopped, and behind which text.
+  missing({ start, stop, expected }) {
+    const text = this.source.slice(start, stop).replace(/[^ -~]+/g, ' ').replace(/ +/g, ' ').trim();
+    const [wanted, more] = expected.split(/(?=:)/), cut = text.length > SHOWN_BEFORE ? '..' : '';
+    return `after \`${cut}${text.slice(-SHOWN_BEFORE)}\` ${wanted} was expected${more ?? ''}`;
   }
 
   nearWord(body) {
@@ -250,16 +258,5 @@ class Advice {
     const near = this.words.map((known) => [likeness(known, word), known])
       .filter(([like]) => like >= .7).sort((one, other) => other[0] - one[0] || (one[1] < other[1] ? 1 : -1))[0];
     return near && near[1] !== word ? `${word} is no word of this language; ${near[1]} is` : '';
-  }
-
-  // What is wrong at the place where reading stopped.
-  stopped({ body, stop, start, end, expected, opened }) {
-    const before = this.source.slice(body, stop), after = this.source.slice(stop, Math.max(stop, end));
-    for (const [behind, here, reason] of this.stops) {
-      if (here.test(after) && behind.test(before)) return [stop, reason];
-    }
-    if (!after && opened !== null) return [opened, `the group that ${this.source[opened]} opens here isn't closed`];
-    if (!after) return [start, `${expected} is missing at its end`];
-    return [stop, `reading stops here, where ${expected} is expected`];
   }
 }

@@ -7,7 +7,8 @@ const MARGIN_LINES = 4; // lines that are drawn above and below those that are s
 const WORDS = 'CALCULATING|NEXTING|FORGETTING|RESUMING|STASHING|RETRIEVING|IGNORING|REMEMBERING|ABSTAINING|REINSTATING'
   + '|WRITING\\s*IN|READING\\s*OUT|NEXT|FORGET|RESUME|STASH|RETRIEVE|IGNORE|REMEMBER|ABSTAIN|FROM|REINSTATE|GIVE\\s*UP'
   + '|WRITE\\s*IN|READ\\s*OUT|SUB|BY';
-// The groups of the syntax file for vim. Of several groups that begin at a place, the first one takes it.
+// The tokenizer of colours, which colours each line as it is typed: the groups of the syntax file for vim. Nothing else
+// rests on it. Of several groups that begin at a place, the first one takes it.
 const GROUPS = {
   Comment: "(?<=(?:PLEASE\\s*DO|PLEASE|DO)\\s*(?:%\\s*\\d+\\s*)?)N(?:OT|'T)(?:(?:\\s*%\\s*\\d+)?\\s*READOUT\\s*[.:,;#])?"
     + '[^]*?(?=(?:(?<!(?:FROM|REINSTATE)\\s*)\\(\\s*\\d+\\s*\\)\\s*)?(?:DO|PLEASE)|$)',

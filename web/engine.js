@@ -20,6 +20,13 @@ class Engine {
     this.ready = this.send({ module: this.module });
   }
 
+  // Returns another worker with the same module.
+  another() {
+    const other = Object.assign(Object.create(Engine.prototype), { script: this.script, module: this.module });
+    other.begin();
+    return other;
+  }
+
   send(message) {
     return new Promise((answer) => {
       this.waiting = answer;

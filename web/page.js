@@ -15,10 +15,12 @@ const LATE = 150; // milliseconds after which a call shows how long it takes, an
 const PAUSE = 250; // milliseconds without a key, after which the program is looked over
 const LIMIT_OF_RUNS = '10000'; // the default of `ick runs`, which is another one than that of `ick run`
 const MOST_STATES = '20000'; // states that are searched for outcomes without a limit
+const MOST_BYTES = '200000000'; // and the bytes that they may take, of a module that has 1 GiB
+const SEARCH = { most: MOST_STATES, memory: MOST_BYTES };
 const FIRST = 'quiet'; // the example that the page begins with
 const FIELDS = ['source', 'input', 'choices', 'seed', 'limit', 'count'];
 const STORE = 'ick.form'; // where the tab keeps the form
-const PARTS = ['drawn', 'written', 'said', 'question', 'stepped', 'staged', 'weighed', 'listed'];
+const PARTS = ['drawn', 'charted', 'written', 'said', 'question', 'stepped', 'staged', 'weighed', 'listed'];
 const ASKED = 2000; // runs in a listing whose tree says what asks
 const ADVISED = 200; // pieces of advice that are listed; the lines of all are marked
 const HEADLINES = {
@@ -32,11 +34,14 @@ const UNABLE = 'This page needs WebAssembly, which this browser lacks or has swi
 const { examples, library, advice: tables, equations, made } = JSON.parse($('content').textContent);
 const advice = new Advice(tables);
 const advising = [...document.querySelectorAll('[data-advises]')].map((it) => it.textContent);
-const adviser = new Adviser(advising, tables, advise);
+const reading = new Reading();
+const adviser = new Adviser(advising, tables, reading, advise);
 const editor = new Editor($('source'), $('numbers'), $('shown'));
 const stagesView = new StagesView($('staged'), equations, follow);
+const statesView = new StatesView($('charted'), followState, (place) => runAgain(place, charted.request));
 let engine = null; // null if this browser can't run the module
 let listing = null; // the runs that are shown, and what was asked for them
+let charted = null; // what was asked for the states that are drawn, and their text
 let weighed = null; // what was asked for the outcomes that are shown
 let session = null; // the commands of the session that is shown, and what it has printed so far
 let isBusy = false;
@@ -163,17 +168,18 @@ function mark() {
 // Returns the statements of the session that have breakpoints, with their lines.
 function stopping() {
   if (!session || session.request.file !== sourceOf(form())) return [];
-  const { file, commands } = session.request, statements = cut(file);
-  return [...breakpointsOf(commands)].map((number) =>
-    ({ number, line: file.slice(0, statements[number - 1].start).split('\n').length }));
+  const { commands, read } = session.request;
+  return [...breakpointsOf(commands)].map((number) => ({ number, line: lineOf(read[number - 1]) }));
 }
+
+const lineOf = ({ source, start }) => source.slice(0, start).split('\n').length;
 
 // Sets a breakpoint at the first statement that begins on a line, or deletes it.
 function toggleBreakpoint(line) {
   if (!session || session.request.file !== sourceOf(form())) return;
-  const { file, commands } = session.request, { starts, source } = editor;
+  const { read, commands } = session.request, { starts, source } = editor;
   const [start, end] = [starts[line - 1], starts[line] ?? source.length];
-  const statement = cut(file).find((it) => it.start >= start && it.start < end);
+  const statement = read.find((it) => it.start >= start && it.start < end);
   if (statement) command(`${breakpointsOf(commands).has(statement.number) ? 'delete' : 'break'} ${statement.number}`);
 }
 
@@ -194,12 +200,12 @@ function goToLine(line) {
 }
 
 // Marks the line of the statement that a message names by the number behind it.
-function markFailing(file, errors) {
+function markFailing({ read }, errors) {
   const found = /^ICL(\d+)I .*\n\s+ON THE WAY TO (\d+)\n/s.exec(errors);
-  const statement = found && cut(file)[Number(found[2]) - 2];
+  const statement = found && read[Number(found[2]) - 2];
   failing = null;
   if (statement) {
-    const line = file.slice(0, statement.start).split('\n').length, most = $('source').value.split('\n').length;
+    const line = lineOf(statement), most = $('source').value.split('\n').length;
     const where = line > most ? ', in the library' : '';
     failing = { line: Math.min(line, most), kind: 'bad', text: `E${found[1]} at statement ${statement.number}${where}` };
   }
@@ -225,6 +231,9 @@ const FILES = {
   'stages txt': () => staged.text,
   'stages json': () => linesOfJson([...linesOfStages(staged.text).map(fieldsOfStages), { listing: 'DONE' }]),
   'stages svg': () => textOfDrawing($('nodes').querySelector('svg')),
+  'states txt': () => charted.text,
+  'states json': () => linesOfJson([...linesOfStates(charted.text), { listing: 'DONE' }]),
+  'states svg': () => textOfDrawing($('charted').querySelector('svg')),
   'tree svg': () => textOfDrawing($('tree').querySelector('svg')),
 };
 
@@ -278,7 +287,7 @@ function clear() {
   for (const id of PARTS) $(id).hidden = true;
   $('status').replaceChildren();
   const isMarked = meeting !== null || session !== null;
-  [listing, weighed, staged, session] = [null, null, null, null];
+  [listing, charted, weighed, staged, session] = [null, null, null, null, null];
   if (!isMarked) return;
   meeting = null;
   lookOver();
@@ -303,7 +312,7 @@ function showRun(answer, request, output, errors) {
   const more = `${run}status ${answer.status}, ${took(answer.milliseconds)}`;
   put('written', 'output', output, answer.written);
   put('said', 'errors', asks ? '' : errors);
-  if (request.file === sourceOf(form())) markFailing(request.file, errors);
+  if (request.file === sourceOf(form())) markFailing(request, errors);
   $('question').hidden = !asks;
   $('back').hidden = request.choices === '';
   if (asks) {
@@ -331,7 +340,7 @@ function showListing(answer, request, output, errors, askers) {
   else say(['wait', `${counted(open, 'run')} reach${open === 1 ? 'es' : ''} the limit`], `${all}, ${more}`);
   put('listed', 'listing', textOfListing());
   put('said', 'errors', errors);
-  if (request.file === sourceOf(form())) markFailing(request.file, errors);
+  if (request.file === sourceOf(form())) markFailing(request, errors);
   $('more').hidden = isWhole || found === 0;
   drawTree();
 }
@@ -350,7 +359,7 @@ function showOutcomes(answer, request, output, errors) {
   else say(['wait', openOf(open)], `${outcomes.length ? `${all} within it${rest}` : 'no outcome within it'}, ${more}`);
   drawBars();
   put('said', 'errors', errors);
-  if (request.file === sourceOf(form())) markFailing(request.file, errors);
+  if (request.file === sourceOf(form())) markFailing(request, errors);
 }
 
 // Draws the lines without an end, and then the outcomes: so many as are to be shown, in the order that is asked for.
@@ -367,13 +376,42 @@ function drawBars() {
   $('more-bars').textContent = `Further outcomes: ${left.toLocaleString('en')} more`;
 }
 
+// Shows the states in which choices are asked, and where they lead.
+function showStates(answer, request, output, errors) {
+  const more = `status ${answer.status}, ${took(answer.milliseconds)}`;
+  put('said', 'errors', errors);
+  if (request.file === sourceOf(form())) markFailing(request, errors);
+  if (answer.status !== 0) return say(HEADLINES[answer.status], more);
+  const { states, isWhole } = readStates(output);
+  if (!isWhole) return say(['bad', 'The states have more than 32 MiB'], more);
+  const asking = states.filter(({ kind }) => kind !== 'end').length;
+  const never = states.reduce((sum, { kind, weight }) => sum + (kind === 'never' ? shareOf(weight) : 0), 0);
+  charted = { request, text: output };
+  $('charted').hidden = false;
+  statesView.show(states);
+  const all = `${counted(states.length, 'state')}, ${asking} of them go${asking === 1 ? 'es' : ''} on`;
+  return never > 0 ? say(['wait', `${percentOf(String(never))} never ends`], `${all}, ${more}`) : say(['ok', all], more);
+}
+
+// Marks the line of the statement of a state that is pointed at.
+function followState(number) {
+  if (charted === null) return;
+  const { file, read } = charted.request, statement = number && read[number - 1], before = meeting;
+  const line = statement && lineOf(statement);
+  const isThere = statement && file === sourceOf(form()) && line <= $('source').value.split('\n').length;
+  meeting = isThere ? { line, number, said: 'asks in this state' } : null;
+  if (meeting?.number === before?.number) return;
+  mark();
+  if (meeting) editor.reveal(line);
+}
+
 // Shows where a session is after its last command, with what the command changed in the state.
 function showSession(answer, request, errors) {
   const before = request.session ?? { printed: 0, asks: false, state: '' };
   put('said', 'errors', errors);
   const more = `status ${answer.status}, ${took(answer.milliseconds)}`;
   if (answer.status !== 0 || answer.written > MOST) {
-    if (request.file === sourceOf(form())) markFailing(request.file, errors);
+    if (request.file === sourceOf(form())) markFailing(request, errors);
     return say(answer.status === 0 ? ['bad', 'The session printed more than 4 MiB'] : HEADLINES[answer.status], more);
   }
   const found = readSession(answer.output, before.printed);
@@ -441,6 +479,7 @@ function show(answer, request, askers) {
   if (!isOfTree && request.from === undefined && !request.session && !request.staged) clear();
   if (request.job === 'runs') showListing(answer, request, output, errors, askers);
   else if (request.job === 'outcomes') showOutcomes(answer, request, output, errors);
+  else if (request.job === 'states') showStates(answer, request, output, errors);
   else if (request.job === 'step') showSession(answer, request, errors);
   else if (request.job === 'stages') showStages(answer, request, output, errors);
   else showRun(answer, request, output, errors);
@@ -453,21 +492,23 @@ function show(answer, request, askers) {
 /* Jobs */
 
 function argumentsOf({ job, choices, seed, limit, count, from, statement }) {
-  const options = { run: { choices, seed, limit }, runs: { from, count, limit }, outcomes: limit ? { limit } : { most: MOST_STATES },
-    asked: { limit, asked: 'listing' }, step: { input: 'input', choices, seed, limit }, stages: { statement },
+  const options = { run: { choices, seed, limit }, runs: { from, count, limit }, outcomes: limit ? { limit } : SEARCH,
+    asked: { limit, asked: 'listing' }, states: SEARCH,
+    step: { input: 'input', choices, seed, limit }, stages: { statement },
   }[job] ?? {};
   const given = Object.entries(options).filter(([, value]) => value).map(([name, value]) => `--${name}=${value}`);
-  return [...(['run', 'runs', 'list', 'check'].includes(job) ? [job] : []), ...given, 'program.i'];
+  return [...(['run', 'runs', 'list', 'check'].includes(job) ? [job] : []), ...job === 'states' ? ['--states'] : [],
+    ...given, 'program.i'];
 }
 
 // Tells whether a job is one of `ick-outcomes`.
-const isOfOutcomes = (job) => job === 'outcomes' || job === 'asked';
+const isOfOutcomes = (job) => ['outcomes', 'states', 'asked'].includes(job);
 
 // Makes the call of a job, with the bytes of a listing.
 function callFor(request, lines = new Uint8Array()) {
   return engine.call({
     argv: argvOf(argumentsOf(request)), file: bytesOf(request.file), input: bytesOf(request.input),
-    most: request.job === 'outcomes' ? MOST_OUTCOMES : MOST,
+    most: ['outcomes', 'states'].includes(request.job) ? MOST_OUTCOMES : MOST,
     listing: isOfOutcomes(request.job) ? lines : null,
     commands: request.job === 'step' ? bytesOf(linesOf(request.commands)) : null, stages: request.job === 'stages',
   });
@@ -522,15 +563,21 @@ async function ask(request) {
     request = { ...request, limit: LIMIT_OF_RUNS };
     answer = await callFor(request);
   }
-  const askers = await askersOf(answer, request);
+  const askers = await askersOf(answer, request), read = await readFor(answer, request);
   clearInterval(clock);
   setBusy(false);
   if (answer?.failed) {
     clear();
     say(['bad', 'The module stopped'], answer.failed);
   } else if (answer && askers) {
-    show(answer, request, askers);
+    show(answer, { ...request, read }, askers);
   }
+}
+
+// Returns the statements of a program, if what is shown of an answer names some of them by number.
+async function readFor(answer, { job, file, read = [] }) {
+  if (read.length > 0 || (!['step', 'states'].includes(job) && !answer?.errors?.length)) return read;
+  return reading.statementsOf(file);
 }
 
 function askForm(job, how = {}) {
@@ -731,6 +778,7 @@ async function begin() {
   listen();
   if (canRun()) {
     engine = new Engine($('worker').textContent, $('module').textContent);
+    reading.engine = engine.another();
   } else {
     $('notice').hidden = false;
     $('notice').textContent = UNABLE;

@@ -41,6 +41,18 @@ function fieldsOfStages({ letters, ...fields }) {
   return letters === undefined ? fields : { ...fields, text: textOfLetters(letters), base64: btoa(letters) };
 }
 
+// Returns the lines of states as objects.
+function linesOfStates(text) {
+  return readStates(text).states.flatMap(({ number, kind, weight, asks, statement, chance, quoted, edges }) => {
+    const { choices, ...fields } = kind === 'end' ? fieldsOf({ end: asks, quoted })
+      : { end: null, output: textOfLetters(unquoted(quoted)), base64: btoa(unquoted(quoted)) };
+    const asked = kind === 'end' ? {} : { asks: statement, chance: chance ?? null };
+    const lines = edges.map(({ choice, to, chance: percent, steps }) =>
+      ({ from: number, choice: choice === '-' ? null : Number(choice), to, chance: percent, steps }));
+    return [{ state: number, kind, weight: weight ?? null, ...asked, ...fields }, ...lines];
+  });
+}
+
 // Returns objects as lines of JSON. Whole numbers may have any number of digits.
 function linesOfJson(objects) {
   const text = (value) => (typeof value === 'bigint' ? String(value) : JSON.stringify(value));

@@ -77,6 +77,9 @@ function addToTrace(steps, { number, statement, pending, instruction }) {
   if (instruction !== '-') steps.at(-1).instructions.push(instruction);
 }
 
+// Returns where the part of each operation is in a statement's text: nothing if the lines are cut off.
+const placesOf = ({ operations, parts }) => (parts.length === operations.length ? parts : []);
+
 // Returns the roots of the operations as trees: each node has an operation, and the nodes of its operands. Of operations
 // that are cut off there are operands that nothing takes.
 function nodesOf(operations) {

@@ -8,16 +8,20 @@ const LISTED = 200; // letters of each statement in their list
 let staged = null; // what was asked for the stages that are shown, and the statements that are known
 
 // Asks for the stages: of all statements, or of one if they are many.
-function askStages() {
-  const statements = cut(sourceOf(form())).length, shown = Math.min(staged?.statement?.number ?? 1, statements || 1);
-  return askForm('stages', { statements, shown, statement: statements > AT_ONCE ? shown : '' });
+async function askStages() {
+  if (isBusy || engine === null) return;
+  setBusy(true);
+  const read = await reading.statementsOf(sourceOf(form())), statements = read.length;
+  setBusy(false);
+  const shown = Math.min(staged?.statement?.number ?? 1, statements || 1);
+  await askForm('stages', { read, statements, shown, statement: statements > AT_ONCE ? shown : '' });
 }
 
 // Shows the stages of one statement. All statements are listed if all are known.
 function showStages(answer, request, output, errors) {
   const more = `status ${answer.status}, ${took(answer.milliseconds)}`;
   put('said', 'errors', errors);
-  if (request.file === sourceOf(form())) markFailing(request.file, errors);
+  if (request.file === sourceOf(form())) markFailing(request, errors);
   if (answer.status !== 0) return say(HEADLINES[answer.status], more);
   if (answer.written > MOST && !request.statement) return ask({ ...request, statement: request.shown });
   const statements = readStages(output), isSingle = Boolean(request.statement);
@@ -75,15 +79,15 @@ function goToStatement(which) {
 // Shows the statement that was clicked at in the editor, if stages of the program are shown.
 function showClicked() {
   if (!staged?.statement || staged.request.file !== sourceOf(form())) return;
-  const at = $('source').selectionStart, number = cut(staged.request.file).filter(({ start }) => start <= at).length;
+  const at = $('source').selectionStart, number = staged.request.read.filter(({ start }) => start <= at).length;
   if (number && number !== staged.statement.number) showStatement(number);
 }
 
 // Returns the advice on a statement.
 function advisedOn({ number, kind }) {
-  const { file } = staged.request;
+  const { file, read } = staged.request;
   if (kind !== 'UNRECOGNISED' || advised.source !== file) return [];
-  const { start, end } = cut(file)[number - 1];
+  const { start, end } = read[number - 1];
   return advised.found.filter(({ at }) => at >= start && at < end).map(({ text }) => text);
 }
 

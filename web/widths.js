@@ -9,29 +9,44 @@ const mingle = (left, right) => BITS.slice(0, 16).reduce((sum, place) =>
 const selected = (left, right) => BITS.filter((place) => bit(right, place))
   .reduce((sum, place, packed) => sum + bit(left, place) * 2 ** packed, 0);
 
+// Returns the result of a unary operator on a number, or null for an operator that isn't known here.
 function unaryOf(operator, number, width) {
   const rotated = ((number >>> 1) | ((number & 1) << (width - 1))) >>> 0;
-  return { '&': number & rotated, V: number | rotated, '?': number ^ rotated }[operator] >>> 0;
+  const result = { '&': number & rotated, V: number | rotated, '?': number ^ rotated }[operator];
+  return result === undefined ? null : result >>> 0;
 }
 
 // The width of an operand in C-INTERCAL, and here, if that is known. A constant has its number.
 const newWidth = (theirs, ours, number = null, doubt = null) => ({ theirs, ours, number, doubt });
 
-// Reads a recognised body, and keeps its doubts. `width` is that of the part that was read last.
-class WidthReader extends Reader {
-  constructor(text) {
-    super(text);
-    Object.assign(this, { width: null, doubts: [] });
+// The operands of a recognised statement, which each operation takes and gives. `doubts` are those of its groups.
+class Operands {
+  constructor({ source, marks }) {
+    Object.assign(this, { source, stack: [], operators: [], doubts: [] });
+    for (const mark of marks) this.meet(mark);
   }
 
-  expression(at, mark, depth) {
-    let [end] = this.operand(at, mark, depth);
-    const left = this.width, [after, operator] = this.next(end);
-    if (operator && '~$'.includes(operator)) {
-      [end] = this.expression(after + 1, mark, depth);
-      this.width = this.joined(operator, left, this.width);
+  meet({ kind, start, end }) {
+    const { stack, operators, source } = this;
+    if (kind === 'operator') {
+      operators.push({ sign: source[start], end });
+    } else if (kind === 'variable' || kind === 'element') {
+      while (kind === 'element' && stack.at(-1)?.start > start) stack.pop();
+      const width = ':;'.includes(source[start]) ? 32 : 16;
+      this.push(newWidth(width, width), start);
+    } else if (kind === 'mesh') {
+      this.push(newWidth(16, 16, numberFrom(source, start) & 65535), start);
+    } else if (kind === 'unary') {
+      const { sign, end: behind } = operators.pop();
+      this.push(this.under(sign, stack.pop(), { at: start, start: behind }), start);
+    } else if (kind === 'binary') {
+      const right = stack.pop(), left = stack.pop();
+      this.push(this.joined(operators.pop().sign, left, right), start);
     }
-    return [end, 0];
+  }
+
+  push(width, start) {
+    this.stack.push({ ...width, start });
   }
 
   joined(operator, left, right) {
@@ -45,22 +60,6 @@ class WidthReader extends Reader {
     return newWidth(right.theirs, ours, areKnown ? selected(left.number, right.number) : null);
   }
 
-  element(start, mark, depth) {
-    const [end] = super.element(start, mark, depth), width = this.text[start] === ',' ? 16 : 32;
-    this.width = newWidth(width, width);
-    return [end, 0];
-  }
-
-  simple(start, first) {
-    const [end] = super.simple(start, first, 0), [at, operator] = this.next(start + 1);
-    if ('.:'.includes(first)) this.width = first === '.' ? newWidth(16, 16) : newWidth(32, 32);
-    if (first === '#') this.width = newWidth(16, 16, this.meshes.at(-1)[0] & 65535);
-    if (operator && '&V?'.includes(operator)) {
-      this.width = this.under(operator, this.width, { at: start, start: at + 1, end: end - 1 });
-    }
-    return [end, 0];
-  }
-
   // Returns the width of an operand with a unary operator in front.
   under(operator, { theirs, ours, number }, doubt) {
     const known = number === null ? null : unaryOf(operator, number, theirs);
@@ -70,12 +69,5 @@ class WidthReader extends Reader {
   }
 }
 
-// Returns each doubt of a source: the number of its statement, and where its group and its operand begin.
-function doubtsIn(source) {
-  const text = source.replaceAll('!', "'."), moved = movedIn(source);
-  return cut(text).filter(({ kind }) => kind !== 'UNRECOGNISED').flatMap((statement) => {
-    const reader = new WidthReader(text);
-    reader.body(statement.body);
-    return reader.doubts.map(({ at, start }) => ({ number: statement.number, at: moved(at), start: moved(start) }));
-  });
-}
+// Returns the doubts of a statement: where each group and its operand begin.
+const doubtsIn = (statement) => (statement.text.includes('~') && isRead(statement) ? new Operands(statement).doubts : []);

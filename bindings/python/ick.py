@@ -327,8 +327,8 @@ def runs(source, input=b"", after=None, limit=None, count=1000):
 def outcomes(source, input=b"", limit=None, most=None):
     """Returns every outcome of a program once, in the order of their first runs, with exact weights.
 
-    Without a limit runs may have any length. Raises Refused if ick refuses the source or the input, if more states would be kept than `most`, or if memory runs
-    out.
+    Without a limit runs may have any length. Raises Refused if ick refuses the source or the input, if more states would
+    be kept than `most`, or if memory runs out.
     """
     given = ["--exact", *options(limit=limit, most=most), "program"]
     *lines, _ = answered(serve_outcomes(given, source, input=input)).output.splitlines()

@@ -44,11 +44,15 @@ _ick() {
     _ick_arguments "$options" '--choices --from --seed --count --limit'
 }
 
-_ick_outcomes() { _ick_arguments '-b --limit --most --exact --total --asked --help' '--limit --most'; }
+_ick_outcomes() {
+    _ick_arguments '-b --limit --most --memory --exact --total --ends --states --asked --help' '--limit --most --memory'
+}
 
 _ick_step() { _ick_arguments '-b --input --choices --seed --limit --trace --help' '--choices --seed --limit'; }
 
-_ick_stages() { _ick_arguments '-b --tree --operations --rules --instructions --statement --help' '--statement'; }
+_ick_stages() {
+    _ick_arguments '-b --tree --operations --parts --rules --instructions --traces --statement --help' '--statement'
+}
 
 _ick_tool() {
     local word=${COMP_WORDS[COMP_CWORD]} commands='' command=''

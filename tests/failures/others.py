@@ -22,7 +22,8 @@ THROWN = b"(1) DO FORGET #1\nPLEASE %50 (1) NEXT\nDO READ OUT #1\nDO GIVE UP\n"
 ENDLESS = b'* 1 0 GIVE-UP "\\nI\\n"\nDONE\n'
 # A coin before a loop without an end.
 CAUGHT = b"DO %50 GIVE UP\n(1) DO FORGET #1\nPLEASE (1) NEXT\n"
-UNFINISHED = b"TOO MANY STATES: 2; TRY --limit 10000\n"
+# The choice takes a step to GIVE UP, and 10,001 steps into the loop.
+UNFINISHED = b"TOO MANY STATES: 2 IN 10002 STEPS; TRY --limit 10000 OR --ends\n"
 # Without its first WRITE IN the program takes two bytes of SIX, and its second number is the rest of this line.
 TALKED_OF = b"""1 0.5 0 E579@5 "\\nI\\n_\\n\\n"
 1 0.5 1 GIVE-UP "\\nI\\n\\nVI\\n\\nLXV\\n\\nI\\n\\nIX\\n"
@@ -112,6 +113,10 @@ STAGES_SHOWN = b"""1 1:1 - DO - 100 CALCULATE "DO .1 <- .1~#3"
   operation 2 2 Constant 3
   operation 3 1 Select
   operation 4 0 Store .1
+  part 1 9-11
+  part 2 12-14
+  part 3 9-14
+  part 4 3-14
   rule 1 read-in-place -> .1, 16 bits
   rule 3 select-a-field: t1 = Field .1 0 00000003 -> t1, 16 bits, ones 00000003, .1 & 00000003
   rule 4 calculate-into-the-scalar: .1 = Field .1 0 00000003
@@ -123,17 +128,21 @@ STAGES_SHOWN = b"""1 1:1 - DO - 100 CALCULATE "DO .1 <- .1~#3"
 2 2:1 - DO - 100 NEXT "DO (1) NEXT"
   tree (1) NEXT
   operation 1 0 Call 3
+  part 1 3-11
   rule 1 as-it-is: Call 3
   instruction 1 by 1: Call 3
 3 3:1 (1) PLEASE - 100 FORGET "(1) PLEASE FORGET #1"
   tree FORGET #1
   operation 1 1 Constant 1
   operation 2 0 Forget
+  part 1 18-20
+  part 2 11-20
   rule 2 as-it-is: Forget #1
   instruction 1 by 2: Forget #1
 4 4:1 - DO - 100 GIVE-UP "DO GIVE UP"
   tree GIVE UP
   operation 1 0 Stop
+  part 1 3-10
   rule 1 as-it-is: Stop
   instruction 1 by 1: Stop
 DONE
@@ -142,12 +151,21 @@ INSTRUCTIONS = b"""3 3:1 (1) PLEASE - 100 FORGET "(1) PLEASE FORGET #1"
   instruction 1 by 2: Forget #1
 DONE
 """
+REFUSED_SHOWN = b"""1 1:1 - DO - 100 READ-OUT "DO READ OUT #70000"
+  tree -
+  part 1 12-18
+  part 2 12-18
+2 2:1 - PLEASE - 100 GIVE-UP "PLEASE GIVE UP"
+  tree GIVE UP
+  part 1 7-14
+REFUSED 17 1
+"""
 STAGES = [
     (Given("stages", ["FILE"], SHOWN, b""), Answer(0, STAGES_SHOWN, b"")),
     (Given("stages of standard input", ["--instructions", "--statement", "3"], SHOWN, SOURCE),
      Answer(0, INSTRUCTIONS, b"")),
     (Given("stages of no statement", ["--statement", "5", "FILE"], SHOWN, b""),
      Answer(64, b"", b"NO SUCH STATEMENT\n")),
-    (Given("stages of a refused source", ["FILE"], REFUSED, b""), REFUSAL),
+    (Given("stages of a refused source", ["FILE"], REFUSED, b""), REFUSAL._replace(output=REFUSED_SHOWN)),
     (Given("stages of no file", ["no-such-file"], b"", b""), Answer(4, b"", b"FILE NOT READ\n")),
 ]

@@ -1,6 +1,6 @@
 """Makes expressions from the rules of lowering, with their values by the definitions of the operators.
 
-The forms of the expressions are the examples in the table of rules of crates/ick_lowering/README.md. A form's masks get
+The forms of the expressions are the examples in the table of rules of crates/ick_lowering/RULES.md. A form's masks get
 a bit more or less, its names become others, and a form may stand in another one.
 """
 import functools
@@ -70,7 +70,7 @@ class Form:
 @functools.lru_cache()
 def forms():
     """Returns the expressions of the table, and those that the rules have no example of."""
-    table = text_of(TOP, "crates", "ick_lowering", "README.md").split("\n## Rules\n")[1].split("\n## ")[0]
+    table = text_of(TOP, "crates", "ick_lowering", "RULES.md").split("\n## Rules\n")[1].split("\n## ")[0]
     found = [Form(text).expression() for text in WITHOUT_EXAMPLE]
     for row in re.findall(r"^\| .*", table, re.MULTILINE):
         for text in re.findall(r"`([^`]*)`", row.split(" | ")[2]):

@@ -5,6 +5,7 @@ label for each node, and solved here by fractions. So the program itself is neve
 """
 import os
 import random
+import re
 from fractions import Fraction
 
 from tally import TOP, called, content, write
@@ -193,24 +194,68 @@ class Exact:
             found = {it[3].rsplit(b" ", 1)[1]: Fraction(it[1].decode()) for it in self.rows(f"ruin {places}", "--exact")}
             self.tally.equal(f"ruin {places}", found, {b'"\\nI\\n"': 1 - wins, b'"\\nII\\n"': wins})
 
+    def enough(self, option, below, above):
+        """Returns the least number of an option that is enough for a source."""
+        while above - below > 1:
+            middle = (below + above) // 2
+            below, above = (below, middle) if self.outcomes(option, str(middle))[0] == 0 else (middle, above)
+        return above
+
     def refused(self):
-        """Refusals just below and just above the number of states that is enough, and outcomes without all states."""
+        """Refusals just below and just above the numbers of states and bytes that are enough."""
         self.source = f"{TOP}/examples/die.i"
-        enough = next(most for most in range(5, 50) if self.outcomes("--most", str(most))[0] == 0)
-        self.tally.equal("states enough", self.outcomes("--most", str(enough), "--total"),
-                         (0, b"6 OUTCOMES, * RUNS, 55/3 STEPS\n", b""))
-        line = f"TOO MANY STATES: {enough - 1}; TRY --limit 10000\n".encode()
-        self.tally.equal("a state too few", self.outcomes("--most", str(enough - 1)), (4, b"", line))
-        self.tally.equal("a command that is tried", self.outcomes("--most", str(enough - 1), "--limit", "10000")[0], 0)
+        total = (0, b"6 OUTCOMES, * RUNS, 55/3 STEPS\n", b"")
+        for option, least, most, line in (("--most", 4, 50, rb"TOO MANY STATES: %d IN \d+ STEPS; TRY --limit 10000 OR --ends\n"),
+                                          ("--memory", 0, 2 ** 20, rb"TOO MUCH MEMORY: %d BYTES; TRY --limit 10000 OR --ends\n")):
+            enough = self.enough(option, least, most)
+            self.tally.equal(f"enough by {option}", self.outcomes(option, str(enough), "--total"), total)
+            status, output, errors = self.outcomes(option, str(enough - 1))
+            self.tally.check((status, output) == (4, b"") and re.fullmatch(line % (enough - 1), errors),
+                             f"one too few by {option} {enough - 1}: {status} {output} {errors}")
+        self.tally.equal("a command that is tried", self.outcomes("--most", "4", "--limit", "10000")[0], 0)
+        self.tally.check(96 * 8 < enough, f"{enough} bytes are enough for a die")
+        for given in ("0", str(2 ** 64)):
+            self.tally.equal(f"--memory {given}", self.outcomes("--memory", given)[:2], (64, b""))
+        self.tally.equal("all bytes", self.outcomes("--memory", str(2 ** 64 - 1), "--total"), total)
+        self.tally.equal("bytes and a limit", self.outcomes("--memory", "9", "--limit", "9"), (64, b"", b"MEMORY WITH LIMIT\n"))
         self.source = f"{self.folder}/source"
         write(self.source, numbered(coins(9)))
         self.tally.equal("outcomes without all states", self.outcomes("--most", "512", "--total"),
                          (0, b"512 OUTCOMES, 512 RUNS\n", b""))
+        self.tally.equal("outcomes without all bytes", self.outcomes("--memory", "1", "--total"),
+                         (0, b"512 OUTCOMES, 512 RUNS\n", b""))
         self.tally.equal("neither states nor runs", self.outcomes("--most", "3", "--total"),
                          (4, b"", b"TOO MANY STATES\n"))
+        for limit in ((), ("--limit", "100")):
+            # 256 states are kept before the last coin, and the runs that have ended don't count.
+            self.tally.equal(f"a state too few at a time, {limit}", self.outcomes("--most", "255", "--total", *limit),
+                             (4, b"", b"TOO MANY STATES\n"))
+            self.tally.equal(f"states enough at a time, {limit}", self.outcomes("--most", "256", "--total", *limit),
+                             (0, b"512 OUTCOMES, 512 RUNS\n", b""))
+        # Steps without a choice are cut behind 10,001 steps: one step, and the longest stretch of further ones.
+        write(self.source, b"(1) DO FORGET #1\nPLEASE READ OUT #1\nDO (1) NEXT\n")
+        self.tally.equal("states without end", self.outcomes("--most", "7"),
+                         (4, b"", b"TOO MANY STATES: 7 IN 70007 STEPS; TRY --limit 10000 OR --ends\n"))
+
+    def totals(self):
+        """Nouns in the singular without a limit, also if not all states are kept, and in the plural with one."""
+        self.source = f"{self.folder}/source"
+        for source, total in ((b"PLEASE GIVE UP\n", b"1 OUTCOME, 1 RUN"),
+                              (b"DO %50 .1 <- #1\nPLEASE GIVE UP\n", b"1 OUTCOME, 2 RUNS"),
+                              (b"DO %50 READ OUT #1\nPLEASE GIVE UP\n", b"2 OUTCOMES, 2 RUNS"),
+                              (b"(1) DO FORGET #1\nPLEASE DO (1) NEXT\n", b"0 OUTCOMES, * RUNS"),
+                              (b"(1) DO FORGET #1\nPLEASE DO %50 (1) NEXT\nDO GIVE UP\n", b"1 OUTCOME, * RUNS, 5 STEPS")):
+            write(self.source, source)
+            self.tally.equal(f"the total of {source}", self.outcomes("--total"), (0, total + b"\n", b""))
+            if b"*" not in total:
+                plural = total.replace(b"OUTCOME,", b"OUTCOMES,").replace(b"1 RUN", b"1 RUNS") + b"\n"
+                self.tally.equal(f"{total}, with a limit", self.outcomes("--total", "--limit", "9"), (0, plural, b""))
+                self.tally.equal(f"{total}, without all states", self.outcomes("--total", "--memory", "1"),
+                                 (0, total + b"\n", b""))
 
     def exact(self):
         self.chains()
         self.between()
         self.known()
         self.refused()
+        self.totals()

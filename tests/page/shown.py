@@ -673,15 +673,16 @@ def same_advice(tally, page):
     sys.path[:0] = [f"{TOP}/tests/tools", f"{TOP}/tools"]
     import advice
     import common
+    import lines
     import programs
     chance = random.Random(51)
     texts = [row[0] for row in advice.ROWS]
     texts += [common.content(path).decode() for path in common.EXAMPLES + common.LIBRARY]
-    texts += [text for text in (advice.random_text(chance).decode("latin-1") for _ in range(100)) if text.isascii()]
+    texts += [text for text in (lines.random_text(chance).decode("latin-1") for _ in range(100)) if text.isascii()]
     texts += [programs.source_of(programs.Maker(random.Random(seed)).program()).decode() for seed in range(60)]
     for text in texts:
-        found = page.browser.evaluate(f"advice.of({json.dumps(text)})"
-                                      ".map(({ line, text }) => `${line}: ${text}\n`).join('')")
+        found = page.inject(f"const source = {json.dumps(text)}, found = advice.of(source, await reading.linesOf(source));"
+                            "answer = found.map(({ line, text }) => `${line}: ${text}\n`).join('');")
         told = subprocess.run([f"{TOP}/tools/ick-advice", "--brief"], input=text.encode(), capture_output=True, check=False).stdout
         wanted = re.sub(r"^-:(\d+):\d+:", r"\1:", told.decode(), flags=re.MULTILINE)
         tally.equal(f"the advice on {text!r}", found, wanted)

@@ -229,7 +229,7 @@ TRY_PARTS = """
       if (GIVING.has(node.operation.operation) && !isUnder && !part.includes('!')) tried.push([part, named(below(node))]);
     }
   }
-  const file = tried.map(([part], at) => `${at % 4 ? 'DO' : 'PLEASE'} :1 <- ${part}\\n`).join('');
+  const file = tried.map(([part], at) => `${at % 4 === 3 ? 'PLEASE' : 'DO'} :1 <- ${part}\\n`).join('');
   const { output } = await callFor({ job: 'stages', file, input: '' });
   readStages(new TextDecoder().decode(output)).forEach(({ operations }, at) => {
     if (named(operations.slice(0, -1)) !== tried[at][1]) wrong.push(tried[at][0]);
@@ -255,9 +255,6 @@ def all_parts(tally, page):
         count += tried
         tally.equal(f"statements without places in {source!r}", lacking, [])
         tally.equal(f"parts that aren't those of their operations in {source!r}", wrong, [])
-    part = "1 1:1 - DO - 100 GIVE-UP \"DO GIVE UP\"\n  tree GIVE UP\n  operation 1 0 Stop\n  part 1 2-4\nDONE\n"
-    found = page.inject(f"answer = placesOf(readStages({json.dumps(part)})[0]).map(({{ from, to }}) => [from, to])")
-    tally.equal("a part that is printed", found, [[2, 4]])
     tally.check(count > 1000, f"only {count} parts were tried")
     source = read(f"{TOP}/crates/ick_stages/src/rule.rt").decode()
     rules = {name for names in re.findall(r'b"([a-z0-9~+-]+)"', source) for name in names.split("+") if name}

@@ -5,7 +5,7 @@ import re
 NAMES = [".1", ".2", ":1", ":3", ".7", ",1", ",2", ";1"]
 SHOW = "print " + " ".join(NAMES)
 PRINTED = re.compile(rb'^  prints "(.*)"\n')
-STOPPED = re.compile(rb"stopped after (\d+) steps: out of memory\n")
+STOPPED = re.compile(rb"stopped after (\d+) steps: out of memory\n|out of memory\n")
 RETURNS = re.compile(rb"^NEXT stack:((?: \d+)*)", re.MULTILINE)
 
 
@@ -80,7 +80,7 @@ class Model:
 
     def answer(self, command):
         """Does a command, and returns its answer."""
-        verb, *words = command.split()
+        verb, *words = command.replace("break (", "break_label ").replace(")", "").split()
         return getattr(self, "do_" + verb)(*words)
 
     def do_step(self, most="1"):
@@ -115,6 +115,10 @@ class Model:
             return f"the last statement is {len(self.texts)}\n".encode()
         self.breakpoints.add(int(statement))
         return b"breakpoint at " + self.texts[int(statement) - 1]
+
+    def do_break_label(self, label):
+        found = [at for at, text in enumerate(self.texts, 1) if re.match(rb'\d+ \d+:1 "\(%s\)' % label.encode(), text)]
+        return self.do_break(found[0]) if found else b"no statement has this label\n"
 
     def do_delete(self, statement=""):
         if not statement:
@@ -185,7 +189,7 @@ def commands(chance, count, statements, limit):
         name, place, some = chance.choice(NAMES), number(statements + 1), number(limit // 3)
         return chance.choice([
             "step", "step " + some, "back", "back " + some, "next", "next", "out", "out", "until " + place, "run",
-            "run " + number(9), "run " + some, "break " + place, "break " + place, "delete " + place,
+            "run " + number(9), "run " + some, "break " + place, f"break ({number(9)})", "delete " + place,
             chance.choice(["delete", f"back {limit}"]), "choose 0", "choose 1", "choose 1", "watch " + name,
             "why " + name, f"print {name} .1", "state", "stack", "cursor"])
     return [one() for _ in range(count)]

@@ -113,7 +113,7 @@ class Sessions:
             command, before = asked[at], model.steps
             short = STOPPED.fullmatch(answer)
             if short:
-                right = model.stops_short(command, int(short[1]))
+                right = model.stops_short(command, int(short[1] or before))
                 self.stopped.append((command.split()[0], before, model.steps))
             else:
                 right = answer.removeprefix(first if at == 0 else b"") == model.answer(command)

@@ -1,28 +1,17 @@
-"""Tries ick-advice: its cut and its refusals against ick, its messages, and every fault that it explains."""
+"""Tries ick-advice: its messages, and every fault that it explains."""
 import glob
-import random
 import re
 
 from common import EXAMPLES, LIBRARY, TOP, closed_pipe, content, help_and_mistakes
 
 import ick_faults
 import ick_library
-import ick_listing
 import ick_source
 
 LINE = ick_library.LINE.decode()
 WRITERS = "\n(1610) DO READ OUT ,1610\n(1020) DO RESUME #1\n(1620) PLEASE RESUME #1\n(1630) DO RESUME #1"
 
 PEER = "/usr/share/doc/intercal/examples"
-TEXTS = 500
-
-PIECES = (".1 <- .2 ~ #3", ".1<-'#1$!2'~#3", ',1 <- #2 BY "#3"', ",1SUB'#1''#2' <- ,1SUB,2SUB#1#2", "READ OUT .1 + #2 + ,1",
-          "READOUT ,1SUB#1", "WRITE IN .1 + :2", "STASH .1+,2", "FORGET #1", "RESUME '?.1$#1'~#3", "GIVE UP", "GIVEUP",
-          "ABSTAIN FROM CALCULATING + READING OUT", "REINSTATE WRITING IN", "IGNORE ;1", ".1<-\"'#1$#2'$\"#3~#4\"\"",
-          "REMEMBER .1", "RETRIEVE :3")
-SCRAPS = ("DO", "PLEASE", "NOT", "N'T", "%50", "%101", "% 7", "(1)", "(70000)", "NEXT", "ABSTAIN FROM", "READ OUT", "READOUT",
-          "<-", "+", "BY", ".1", ",1", ";1", "SUB", "#1", "#70000", ".0", "'", '"', "!1", "&", "V", "~", "$", "\n", "\t",
-          "\x0b", "\x80", "\\", "do", "NOTE", "COME FROM", "1 2")
 
 ROWS = (
     ("DO .1 <- 5 PLEASE GIVE UP", "1:10: statement 1 {E}: a number is written with a mesh, as #5"),
@@ -37,11 +26,19 @@ ROWS = (
      "1:13: statement 1 {E}: READ OUT takes no text: ick-say makes statements that print one"),
     ("DO READ OUT .1, .2 PLEASE GIVE UP", "1:15: statement 1 {E}: a list is written with +"),
     ("DO READ OUT ;1 PLEASE GIVE UP",
-     "1:16: statement 1 {E}: a hybrid can't be read or written whole: name an element, or use a tail"),
-    ("DO .1 <- '#1~#2 PLEASE GIVE UP", "1:10: statement 1 {E}: the group that ' opens here isn't closed"),
+     "1:15: statement 1 {E}: a hybrid can't be read or written whole: name an element, or use a tail"),
+    ("DO .1 <- '#1~#2 PLEASE GIVE UP", "1:16: statement 1 {E}: after `DO .1 <- '#1~#2` {S}"),
     ("PLEASE GIVE UP DO (1) NEXT\n(1) DO READ OUT ,1SUB!2~\"#1$!3'\nDO GIVE UP",
-     "2:25: statement 3 {E}: the group that \" opens here isn't closed"),
-    ("DO .1 <- \"#1~'#2\" PLEASE GIVE UP", "1:17: statement 1 {E}: reading stops here, where ' to close the group is expected"),
+     "2:32: statement 3 {E}: after `(1) DO READ OUT ,1SUB!2~\"#1$!3'` an operator or the rabbit ears that close the group was expected"),
+    ("DO .1 <- \"#1~'#2\" PLEASE GIVE UP", "1:17: statement 1 {E}: after `DO .1 <- \"#1~'#2` {S}"),
+    ("DO .1 <- #5 $ PLEASE GIVE UP", "1:14: statement 1 {E}: after `DO .1 <- #5 $` {O}"),
+    ("PLEASE GIVE UP\n(7) DO :1 <-\n    ,1 SUB PLEASE GIVE UP", "3:11: statement 2 {E}: after `(7) DO :1 <- ,1 SUB` {O}\n"
+     "3:12: refused, E099: 3 statements, 2 with PLEASE: say PLEASE in 1 fewer"),
+    ("DO READ\tIN .1 PLEASE GIVE UP", "1:9: statement 1 {E}: after `DO READ` OUT was expected"),
+    ("DO STASH .1 .2 PLEASE GIVE UP", "1:13: statement 1 {E}: after `DO STASH .1` the end of the statement was expected"),
+    ("DO .1 <- '\"#1$#2\"~'#3$#4'\"#5$#6\"' PLEASE GIVE UP",
+     "1:26: statement 1 {E}: after `DO .1 <- '\"#1$#2\"~'#3$#4'` {S}"),
+    ("DO .1 <- " + "#1~" * 20 + " PLEASE GIVE UP", "1:70: statement 1 {E}: after `..~" + "#1~" * 13 + "` {O}"),
     ("DO .1 <- #&&5 PLEASE GIVE UP",
      "1:12: statement 1 {E}: an operand has one unary operator: put a group round the inner one"),
     ("DO .1 <- &#5 PLEASE GIVE UP",
@@ -66,10 +63,10 @@ ROWS = (
      "ick-convert --come-from rewrites it"),
     ("DO .1 <- #1 ONCE PLEASE GIVE UP", "1:13: statement 1 {E}: ONCE and AGAIN are C-INTERCAL's: ick-convert --once rewrites them"),
     ("DO ABSTAIN #1 FROM GIVING UP PLEASE GIVE UP",
-     "1:4: statement 1 {E}: ABSTAIN with a count is C-INTERCAL's, and not in this language: ick-convert "
+     "1:12: statement 1 {E}: ABSTAIN with a count is C-INTERCAL's, and not in this language: ick-convert "
      "--abstain rewrites it"),
     ("DO ABSTAIN .1 FROM (10)\nDO READ OUT #1\nPLEASE GIVE UP",
-     "1:4: statement 1 {E}: ABSTAIN with a count is C-INTERCAL's, and not in this language: ick-convert "
+     "1:12: statement 1 {E}: ABSTAIN with a count is C-INTERCAL's, and not in this language: ick-convert "
      "--abstain rewrites it"),
     ("DO ABSTAIN #1 FROM (10)\nDO READ OUT #1\n(10) PLEASE GIVE UP",
      "3:1: refused, E182: (10) is the label of statement 3, and of statement 2 at line 1, since ABSTAIN with a count, which is "
@@ -78,7 +75,7 @@ ROWS = (
      "1:31: ABSTAIN with a count, which is C-INTERCAL's, hands its (10) to statement 3 as its label"),
     ("DO ABSTAIN FROM COMMENTING PLEASE GIVE UP", "1:17: statement 1 {E}: no gerund begins so"),
     ("DO RAED OUT #1 PLEASE GIVE UP", "1:4: statement 1 {E}: RAED is no word of this language; READ is"),
-    ("DO DO GIVE UP", "1:4: statement 1 {E}: nothing stands between this identifier and the next one"),
+    ("DO DO GIVE UP", "1:3: statement 1 {E}: nothing stands between this identifier and the next one"),
     ("DO %50% READ OUT #1 PLEASE GIVE UP", "1:7: statement 1 {E}: a chance has one %, in front of its number, as %50"),
     ("DO 50% READ OUT #1 PLEASE GIVE UP", "1:4: statement 1 {E}: a chance has one %, in front of its number, as %50"),
     ("DO %50 %50 READ OUT #1 PLEASE GIVE UP", "1:8: statement 1 {E}: NOT and a chance stand once each"),
@@ -99,18 +96,18 @@ ROWS = (
      "3:1: refused, E182: (5) is the label of statement 3, and of statement 2 at line 1, since the comment in front hands "
      "it on"),
     ("DO (1610) NEXT\nDO (1000) NEXT\nPLEASE DO (1610) NEXT\nDO GIVE UP",
-     "1:5: the library has (1000), (1610): ick-join pastes it after the program"),
+     "1:4: the library has (1000), (1610): ick-join pastes it after the program"),
     ("DO NOT (1234) NEXT\nDO ABSTAIN FROM (1020)\nDO (1000) NEXT\nPLEASE GIVE UP",
-     "1:9: refused, E129: no statement has the label (1234)\n"
-     "2:18: the library has (1000), (1020): ick-join pastes it after the program"),
+     "1:8: refused, E129: no statement has the label (1234)\n"
+     "2:17: the library has (1000), (1020): ick-join pastes it after the program"),
     ("DO (1020) NEXT\nDO (1001) NEXT\nPLEASE GIVE UP\n(1001) DO RESUME .5",
-     "1:5: refused, E129: no statement has the label (1020)"),
+     "1:4: refused, E129: no statement has the label (1020)"),
     (f"DO (1020) NEXT\nDO (1001) NEXT\nPLEASE GIVE UP\n{LINE}\n(1001) DO RESUME .5",
-     "1:5: the library has (1020): ick-join pastes it after the program"),
+     "1:4: the library has (1020): ick-join pastes it after the program"),
     ("DO (1020) NEXT\nDO (5000) NEXT\nPLEASE (7) NEXT\nDO GIVE UP",
-     "1:5: the library has (1020): ick-join pastes it after the program\n"
-     "2:5: refused, E129: no statement has the label (5000); ick-join --with pastes C-INTERCAL's floatlib.i\n"
-     "3:9: refused, E129: no statement has the label (7)"),
+     "1:4: the library has (1020): ick-join pastes it after the program\n"
+     "2:4: refused, E129: no statement has the label (5000); ick-join --with pastes C-INTERCAL's floatlib.i\n"
+     "3:8: refused, E129: no statement has the label (7)"),
     ("DO GIVE UP\n" * 11, "11:1: refused, E079: 11 statements, 0 with PLEASE: say PLEASE in 2 more"),
     ("PLEASE GIVE UP\n" * 3, "3:1: refused, E099: 3 statements, 3 with PLEASE: say PLEASE in 2 fewer"),
     ("DO READ OUT #70000\nPLEASE GIVE UP",
@@ -130,60 +127,10 @@ ROWS = (
 )
 
 
-def random_text(chance):
-    """Statements, most of them sound, with scraps between them and single bytes changed."""
-    words = []
-    for place in range(chance.randint(1, 12)):
-        if chance.random() < 0.3:
-            words.append(f"({10 * place + chance.randint(1, 9)})")
-        words.append(chance.choice(("DO", "DO", "DO", "PLEASE", "PLEASE DO")))
-        if chance.random() < 0.2:
-            words.append(chance.choice(("NOT", "N'T", "%30", "%0 NOT")))
-        if chance.random() < 0.7:
-            words.append(chance.choice(PIECES))
-        else:
-            words += [chance.choice(SCRAPS) for _ in range(chance.randint(0, 7))]
-    text = "".join(word + chance.choice(("", " ", "\n")) for word in words)
-    if chance.random() < 0.2:
-        place = chance.randrange(len(text))
-        text = text[:place] + chance.choice("'\"!~$.,;:#(%)\n 1D") + text[place:]
-    return text.encode("latin-1")
-
-
-def listed(source):
-    """What `ick list` prints of a text, or the number and the statement of its refusal."""
-    statements = ick_source.cut(source)
-    refusals = ick_source.refusals(statements)
-    if refusals:
-        return refusals[0][0], refusals[0][1].number if statements else 0
-    lines = [f"{one.number} {'-' if one.label is None else f'({one.label})'} {'PLEASE' if one.polite else 'DO'} "
-             f"{'NOT' if one.abstained else '-'} {one.chance} {one.kind} ".encode()
-             + ick_listing.quoted(source[one.start:one.end]) + b"\n" for one in statements]
-    return b"".join(lines)
-
-
-def refused(err):
-    """The number and the statement of a message."""
-    found = re.match(rb"ICL(\d+)I .*\n +ON THE WAY TO (\d+)\n", err, re.DOTALL)
-    return (int(found[1]), int(found[2]) - 1) if found else None
-
-
-def try_cut(tally):
-    chance = random.Random(72)
-    sources = [(path, content(path)) for path in EXAMPLES + LIBRARY + sorted(glob.glob(f"{PEER}/**/*.*i", recursive=True))]
-    sources += [(f"random text {place}", random_text(chance)) for place in range(TEXTS)]
-    sources += [(f"height {high}", b"DO .1 <- " + text) for high in (255, 256)
-                for text in (b"'" * high + b"#1" + b"'" * high, b"#1" + b"~#1" * high, b",1SUB" * high + b"#1")]
-    recognised = 0
-    for name, source in sources:
-        status, out, err = tally.ick("list", given=source)
-        tally.equal(f"the cut of {name}: {source[:400]!r}", listed(source), out if status == 0 else refused(err))
-        recognised += status == 0
-    tally.check(recognised > TEXTS // 3, f"only {recognised} texts were read")
-
-
 def try_messages(tally):
-    marks = {"E": "is fault 000 when it is done", "G": "no GIVE UP is ever done: the program can only end by a fault"}
+    marks = {"E": "is fault 000 when it is done", "G": "no GIVE UP is ever done: the program can only end by a fault",
+             "O": "an operand was expected: a variable, an element, a mesh or a group",
+             "S": "an operator or the spark that closes the group was expected"}
     for source, wanted in ROWS:
         wanted = "".join(f"-:{line}\n" for line in wanted.format(**marks).splitlines()).encode()
         found = tally.tool("ick-advice", "--brief", given=source.encode())
@@ -227,7 +174,7 @@ def try_peer(tally):
         tally.untried.append("ick-advice on C-INTERCAL's examples (package intercal)")
     for path in paths:
         source = content(path)
-        refusals = ick_source.refusals(ick_source.cut(source))
+        refusals = ick_source.Source(source).refusals
         if not refusals:
             continue
         number = refusals[0][0]
@@ -251,7 +198,8 @@ def try_explained(tally):
     manual, told = content(f"{TOP}/docs/MANUAL.md").decode(), {"SOURCE TOO LONG"}
     for title in ("Exit statuses", "Outcomes"):
         text = re.split(rf"\n## \d+ {title}\n", manual)[1].split("\n## ")[0]
-        found = re.findall(r"^\| \d+ \| `([A-Zn ]+?)(?: AFTER n STEPS|(?:: n)?; TRY --limit 10000)?` \|", text, re.MULTILINE)
+        found = re.findall(r"^\| \d+ \| `([A-Zn, ]+?)(?: AFTER n STEPS|(?:: n (?:IN m STEPS|BYTES))?; TRY --limit 10000 OR --ends)?` \|",
+                           text, re.MULTILINE)
         told |= {name.replace("n", "N") for name in found}
     tally.equal("the messages of the manual", told, set(ick_faults.MESSAGES))
     tally.equal("a line by its number", *(tally.tool("ick-advice", "--explain", *f"LINE {number} IS NOT OF THIS PROGRAM".split())
@@ -279,7 +227,6 @@ def try_line(tally):
 def try_all(tally):
     help_and_mistakes(tally, "ick-advice")
     closed_pipe(tally, "ick-advice", [], b"DO X " * 20000)
-    try_cut(tally)
     try_messages(tally)
     try_pictures(tally)
     try_examples(tally)

@@ -42,7 +42,8 @@ STAGES = "9 operations → 1 instruction\n- `.1 = Xor .1 .2`"
 # What is typed, and some of what is offered, or None for nothing.
 OFFERS = (
     ("", "DO PLEASE"), ("P", "PLEASE"), ("DO GIVE UP\nPLE", "PLEASE"), ("DO ", "READ_OUT STASH NOT (1000)_NEXT"),
-    ("DO READ O", "READ_OUT"), ("DO READ\tO", "READ_OUT"), ("DO WRITEI", "WRITE_IN"), ("DO RE", "REMEMBER RESUME READ_OUT"),
+    ("DO READ O", "OUT"), ("DO READ\tO", "OUT"), ("DO WRITEI", "IN"), ("DO RE", "REMEMBER RESUME READ_OUT"),
+    ("DO ABSTAIN ", "FROM"), ("DO GIVE ", "UP"),
     ("DO ABSTAIN FROM ", "CALCULATING READING_OUT"), ("DO ABSTAIN FROM READING OUT + N", "NEXTING"),
     ("(5) DO GIVE UP\nDO REINSTATE (", "(5)"), ("(5) DO GIVE UP\nDO ABSTAIN FROM ", "(5) NEXTING"),
     ("(5) DO GIVE UP\nDO (", "(5)_NEXT (1030)_NEXT"), ("DO (15", "(1500)_NEXT (1550)_NEXT"), ("DO (5) N", "NEXT"),
@@ -158,16 +159,24 @@ def try_further(tally):
         for one in diagnostics(found)[0]]
     tally.equal("what could have stood there", told, [
         (0, "E129", "", []),
-        (1, "E000", "", [(9, "here could stand a variable, a mesh (#) or a group")]),
+        (1, "E000", "", []),
         (3, "E017", "", []),
-        (4, "E000", "Reading stops at line 5, column 13, where ' to close the group could stand",
-         [(12, "here could stand ' to close the group")]),
-        (5, "E000", "", [(13, "here could stand a variable or an array")]),
+        (4, "E000", "", []),
+        (5, "E000", "", []),
         (6, "E200", "", []), (7, "E182", "", []), (7, "E139", "", []), (8, "E197", "", []),
-        (12, "E000", "", [(12, "here could stand a variable, a mesh (#) or a group")]), (15, "E079", "", [])])
+        (12, "E000", "", []), (15, "E079", "", [])])
     _, found = talk(tally, opened("DO .1 <- 5\nPLEASE GIVE UP"))
     tally.equal("a number without a mesh", [one["message"].partition("\n")[2] for one in diagnostics(found)[0]],
-                ["Reading stops here, where a variable, a mesh (#) or a group could stand"])
+                ["after `DO .1 <-` an operand was expected: a variable, an element, a mesh or a group"])
+    _, found = talk(tally, opened("DO .1 <- #5 $\n  \nDO please $\nPLEASE GIVE UP"))
+    tally.equal("the places where reading stops", [
+        (one["range"], one["message"].partition("done: ")[2], [it["location"]["range"]["start"] for it in
+                                                               one["relatedInformation"]]) for one in diagnostics(found)[0]],
+        [({"start": {"line": 0, "character": 13}, "end": {"line": 0, "character": 13}},
+          "after `DO .1 <- #5 $` an operand was expected: a variable, an element, a mesh or a group", []),
+         ({"start": {"line": 2, "character": 0}, "end": {"line": 2, "character": 11}},
+          "small letters are no letters of the language: write capitals, or use ick-convert\nafter `DO` a variable, an array, "
+          "a label or a verb was expected", [{"line": 2, "character": 3}])])
 
 
 def try_all(tally):

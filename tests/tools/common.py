@@ -22,6 +22,7 @@ class ToolTally(Tally):
         self.program = os.path.realpath(program)
         self.outcomes, self.step, self.stages = (os.path.realpath(programs(None, crate)[0])
                                                  for crate in ("outcomes", "step", "stages"))
+        os.environ["ICK_STAGES"] = self.stages  # also for what this process reads by ick_source
 
     def ick(self, *arguments, given=b""):
         return called([self.program, *arguments], given)

@@ -17,7 +17,7 @@ OBJECTS = (
     {"listing": "MORE"},
 )
 OUTCOMES = (b'8 0.0625 0000000 LIMIT ""\n* 1/6 00 GIVE-UP "\\nI\\n"\n3 0.123456789012345.. 1 E275@3 "x"\n* 1/2 1 NEVER ""\n'
-            b"DONE\n")
+            b"* 1/3 01 E241@4\n* 2/3 0 NEVER\nDONE\n")
 OF_OUTCOMES = (
     {"runs": 8, "weight": "0.0625", "numerator": 1, "denominator": 16, "decimal": 0.0625, "choices": "0000000",
      "end": "LIMIT", "output": "", "base64": "", "numerals": []},
@@ -27,6 +27,9 @@ OF_OUTCOMES = (
      "choices": "1", "end": "FAULT", "fault": 275, "statement": 3, "output": "x", "base64": "eA==", "numerals": []},
     {"runs": None, "weight": "1/2", "numerator": 1, "denominator": 2, "decimal": 0.5, "choices": "1", "end": "NEVER",
      "output": "", "base64": "", "numerals": []},
+    {"runs": None, "weight": "1/3", "numerator": 1, "denominator": 3, "decimal": 1 / 3, "choices": "01", "end": "FAULT",
+     "fault": 241, "statement": 4},
+    {"runs": None, "weight": "2/3", "numerator": 2, "denominator": 3, "decimal": 2 / 3, "choices": "0", "end": "NEVER"},
     {"listing": "DONE"},
 )
 STAGES = (b'2 2:9 (7) DO - 100 CALCULATE "DO .1 <- .2"\n  tree .1 <- .2\n  operation 1 1 Load .2\n  operation 3 1 Mingle\n'
@@ -56,9 +59,24 @@ OF_STAGES = (
     {"stage": "trace", "number": 3, "statement": 12, "pending": [10, 8], "instruction": "Resume t4"},
     {"listing": "DONE"},
 )
+PLACES = (b'1 1:1 - DO - 100 UNRECOGNISED "DO .1 <- #5 $"\n  head 0-2 identifier\n  head 3-13 body\n  part 1 0-13 action\n'
+          b"  part 2 3-5\n  mark 3-5 name\n  stops 13 an operand: a variable, an element, a mesh or a group\n"
+          b"refused 129 2 3-6\nREFUSED 129 2\n")
+OF_PLACES = (
+    {"statement": 1, "line": 1, "column": 1, "label": None, "polite": False, "abstained": False, "chance": 100,
+     "kind": "UNRECOGNISED", "text": "DO .1 <- #5 $", "base64": "RE8gLjEgPC0gIzUgJA=="},
+    {"stage": "head", "from": 0, "to": 2, "kind": "identifier"},
+    {"stage": "head", "from": 3, "to": 13, "kind": "body"},
+    {"stage": "part", "number": 1, "from": 0, "to": 13, "kind": "action"},
+    {"stage": "part", "number": 2, "from": 3, "to": 5},
+    {"stage": "mark", "from": 3, "to": 5, "kind": "name"},
+    {"stage": "stops", "at": 13, "expected": "an operand: a variable, an element, a mesh or a group"},
+    {"refused": 129, "statement": 2, "from": 3, "to": 6},
+    {"listing": "REFUSED", "fault": 129, "statement": 2},
+)
 WRONG = (b'1 1/0 0 GIVE-UP ""\n', b"HELLO\n", b'0 GIVE-UP ""x\n', b'2 GIVE-UP ""\n', b'0 GIVE-UP "\\q"\n', b'0 E1@1 ""\n',
          b"  tree \n", b"  branch 1\n", b"  operation 1 Load\n", b"  rule 1 No\n", b"  instruction 1 by : Pass\n",
-         b"  tree \x80\n")
+         b"  tree \x80\n", b"  head 1 label\n", b"  part 1 2\n", b"  mark 1-2\n", b"refused 129 2\n", b"REFUSED 129\n")
 NO_OBJECTS = (b"[]\n", b"{}\n", b"1\n", b"x\n", b'{"listing": "END"}\n', b'{"choices": "2", "end": "LIMIT", "base64": ""}\n',
               b'{"choices": "0", "end": "LIMIT", "base64": "?"}\n', b"[" * 5000 + b"\n", b'{"stage": "tree"}\n',
               b'{"stage": "dropped", "number": "x", "instruction": "Pass"}\n',
@@ -69,7 +87,7 @@ NO_OBJECTS = (b"[]\n", b"{}\n", b"1\n", b"x\n", b'{"listing": "END"}\n', b'{"cho
 def try_json(tally):
     sys.set_int_max_str_digits(0)
     for name, lines, objects in (("runs", RUNS, OBJECTS), ("outcomes", OUTCOMES, OF_OUTCOMES),
-                                 ("stages", STAGES, OF_STAGES)):
+                                 ("stages", STAGES, OF_STAGES), ("places", PLACES, OF_PLACES)):
         status, out, err = tally.tool("ick-json", "--numerals", given=lines)
         tally.equal(f"ick-json of {name}", (status, err, [json.loads(line) for line in out.splitlines()]),
                     (0, b"", list(objects)))
@@ -78,7 +96,7 @@ def try_json(tally):
                                               for name in ("numerator", "decimal")], [1, 0])
     examples = [path for kind in ("runs", "list", "outcomes") for path in sorted(glob.glob(f"{TOP}/examples/*.{kind}"))]
     examples += sorted(glob.glob(f"{TOP}/tests/stages/*.stages"))
-    listing = RUNS + OUTCOMES + STAGES + b"".join(map(content, examples))
+    listing = RUNS + OUTCOMES + STAGES + PLACES + b"".join(map(content, examples))
     status, out, err = tally.tool("ick-json", given=listing)
     bare = b"".join(json.dumps({key: value for key, value in json.loads(line).items() if key not in ("output", "text")})
                     .encode() + b"\n" for line in out.splitlines())
@@ -95,7 +113,7 @@ def try_json(tally):
         status, out, err = tally.tool("ick-json", *options, given=listing)
         tally.check(status == 1 and out.count(b"\n") == 3 and err.startswith(b"ick-json: the listing has no last line"),
                     f"ick-json {options} of a listing without its last line: {status} {err!r}")
-    for lines in (STAGES[:-5], STAGES.splitlines(True)[0]):
+    for lines in (STAGES[:-5], STAGES.splitlines(True)[0], PLACES[:-14]):
         status, out, err = tally.tool("ick-json", given=lines)
         tally.check(status == 1 and b"no last line" in err, f"ick-json of stages without a last line: {status} {err!r}")
 

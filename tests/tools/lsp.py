@@ -5,7 +5,6 @@ import random
 import re
 import subprocess
 import sys
-import time
 
 from common import EXAMPLES, TOOLS, content
 from tally import SECONDS
@@ -132,7 +131,7 @@ def try_politeness(tally):
         many, one = results(found)[1]
         changed = applied(text, many["edit"]["changes"][URI])
         tally.check("Say PLEASE in" in many["title"] and many["isPreferred"], f"the action for {name}: {many['title']}")
-        tally.equal(f"the refusals of {name}", ick_source.refusals(ick_source.cut(changed.encode())), [])
+        tally.equal(f"the refusals of {name}", ick_source.Source(changed.encode()).refusals, [])
         tally.equal(f"ick check of {name}", tally.ick("check", given=changed.encode())[0], 0)
         word = "PLEASE" if name == "no PLEASE" else "DO"
         tally.check(f"{word} GIVE UP" in applied(text, one["edit"]["changes"][URI]), f"one statement of {name}")
@@ -321,27 +320,6 @@ def try_changes(tally):
     tally.equal("a hover on a closed program", results(found)[1]["code"], -32602)
 
 
-def try_cutting(tally):
-    """After random changes the statements are those of the whole text, cut anew."""
-    pieces = (b"DO ", b"PLEASE ", b"READ", b"OUT", b"READOUT .1", b" + ", b"NOT ", b"%50 ", b"(1)", b" NEXT ", b"!1",
-              b".1 <- #2", b"'", b'"', b"X", b"\n", b" ", b",1 SUB ", b"GIVE UP", b"ABSTAIN FROM ", b"5")
-    drawn, wrong = random.Random(1), []
-    for _ in range(200):
-        source = b"".join(drawn.choices(pieces, k=60))
-        statements = ick_source.cut(source)
-        for _ in range(20):
-            start = drawn.randrange(len(source) + 1)
-            end = min(len(source), start + drawn.choice((0, 0, 1, 3, 9, 40)))
-            after = source[:start] + b"".join(drawn.choices(pieces, k=drawn.randrange(4))) + source[end:]
-            wanted = [vars(one) for one in ick_source.cut(after)]
-            statements = ick_source.cut_again(after, source, statements)
-            if [vars(one) for one in statements] != wanted:
-                wrong.append((source, after))
-                statements = ick_source.cut(after)
-            source = after
-    tally.equal("texts that are cut otherwise after a change", wrong, [])
-
-
 def bodies(drawn, count):
     """Bodies of messages, most of them damaged: none of them ends the server."""
     words = [None, True, -1, 0, 3, 2 ** 70, 1.5, "", URI, "\ud800", [], {}, [[]], {"line": 0},
@@ -408,5 +386,4 @@ def try_all(tally):
     try_end(tally)
     try_cancelling(tally)
     try_changes(tally)
-    try_cutting(tally)
     try_random(tally)

@@ -26,10 +26,9 @@ def places(source):
     """The places of bytes of identifiers, of comments' bytes behind them, and of recognised statements."""
     identifiers, comments, recognised = set(), set(), set()
     for statement in ick_source.cut(source):
-        found = ick_source.IDENTIFIER.search(source, statement.start)
-        identifiers.update(range(*found.span()))
+        identifiers.update(range(statement.identifier.start, statement.identifier.end))
         if statement.abstained:
-            comments.update(range(ick_source.NOT.search(source, found.end()).start(), statement.end))
+            comments.update(range(statement.head["not"].start, statement.end))
         if statement.read():
             recognised.update(range(statement.start, statement.end))
     return identifiers, comments, recognised

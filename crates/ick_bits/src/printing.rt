@@ -12,7 +12,7 @@ use itoa::Buffer;
 
 /// The most bytes that both lines of a numeral take, written four at a time. A number has at most
 /// ten digits.
-const MOST: usize = 82;
+const NUMERAL_BYTES: usize = 82;
 
 /// Appends the numeral of `number` to `out` as two lines, each ended by byte 10 (Revised Manual,
 /// 4.4.13).
@@ -30,14 +30,14 @@ pub fn append_numeral(out: &mut Vec<u8>, number: u32) -> Result<(), NoMemory>
         OnErr result (vec_capacity out.old < vec_len out.old + length text) }
     ensures capacity { vec_capacity out.old ≤ vec_capacity out.new }
 {
-    let mut text = [0; MOST];
+    let mut text = [0; NUMERAL_BYTES];
     let end = write_lines(&mut text, number);
     out.extend_from_slice(&text[..end])?;
     Ok(())
 }
 
 /// Writes both lines of the numeral of a number, and returns their end.
-fn write_lines(text: &mut [u8; MOST], number: u32) -> usize
+fn write_lines(text: &mut [u8; NUMERAL_BYTES], number: u32) -> usize
     ensures lines { take result text.new ≡ printed (numeral_of number) }
     ensures within { result ≤ 82 }
 {
@@ -55,7 +55,7 @@ fn write_lines(text: &mut [u8; MOST], number: u32) -> usize
 }
 
 /// Writes the line of bars of a number's digits, and returns its end.
-fn write_bars(text: &mut [u8; MOST], digits: &[u8]) -> usize
+fn write_bars(text: &mut [u8; NUMERAL_BYTES], digits: &[u8]) -> usize
     requires digits { AllDigits 10 digits.now }
     requires few { length digits.now ≤ 10 }
     ensures bars { take result text.new ≡ bar_line (symbols_of (map digit_value digits.now)) }
@@ -77,7 +77,7 @@ fn write_bars(text: &mut [u8; MOST], digits: &[u8]) -> usize
 }
 
 /// Writes the letters of a number's digits from `start` on, and returns their end.
-fn write_letters(text: &mut [u8; MOST], start: usize, digits: &[u8]) -> usize
+fn write_letters(text: &mut [u8; NUMERAL_BYTES], start: usize, digits: &[u8]) -> usize
     requires digits { AllDigits 10 digits.now }
     requires few { length digits.now ≤ 10 }
     requires start { start ≤ 41 }
@@ -95,7 +95,7 @@ fn write_letters(text: &mut [u8; MOST], start: usize, digits: &[u8]) -> usize
 }
 
 /// Overwrites the four bytes from a position on.
-fn write_row(text: &mut [u8; MOST], at: usize, row: &[u8; 4])
+fn write_row(text: &mut [u8; NUMERAL_BYTES], at: usize, row: &[u8; 4])
     requires { at ≤ 77 }
     ensures { take (at + 4) text.new ≡ take at text.old ++ row.now }
 {

@@ -2,7 +2,7 @@
 use Rattle.std.proofs.Common.{◌≡◌, inl, inr, ℕ, List, Option, Some, None, arith, refl, subst}
 use Rattle.std.specs.Prelude.{true, if◌then◌else◌, is_some, option_map}
 use Rattle.clap.specs.Words.{Text}
-use Rattle.ick_explorer.specs.Written.{Written}
+use Rattle.ick_devices.specs.Written.{Written}
 use Rattle.ick_job.specs.JobEnd.{source_of}
 use Rattle.ick_job.specs.Notice.{notice_text}
 use Rattle.ick_job.specs.Serve.{Finishes, memory_failed}

@@ -2,7 +2,7 @@
 use Rattle.std.proofs.Common.{◌≡◌, inl, inr, ℕ, true, List, [], Some, arith, refl, subst, sym}
 use Rattle.std.proofs.lemmas.List.{append-nil}
 use Rattle.clap.specs.Words.{Text}
-use Rattle.ick_explorer.specs.Written.{Written}
+use Rattle.ick_devices.specs.Written.{Written}
 use Rattle.ick_job.specs.JobEnd.{source_of}
 use Rattle.ick_job.specs.Notice.{notice_text}
 use Rattle.ick_job.specs.Serve.{Finishes, memory_failed}

@@ -1,7 +1,7 @@
 -- What a call over a file and an input in memory leaves.
 use Rattle.std.specs.Prelude.{◌≡◌, ◌≢◌, ◌<◌, ◌⊎◌, if◌then◌else◌, ℕ, true, List, [], Some}
 use Rattle.clap.specs.Words.{Text, fault_of}
-use Rattle.ick_explorer.specs.Written.{Written}
+use Rattle.ick_devices.specs.Written.{Written}
 use Rattle.ick_job.specs.JobEnd.{input_of}
 use Rattle.ick_cli.specs.Job.{Asked, HasJob, has_file, job_of}
 use Rattle.ick_job.specs.Notice.{notice_text}

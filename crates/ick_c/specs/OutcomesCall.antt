@@ -1,7 +1,7 @@
 -- What a call of `ick-outcomes` over a file, a listing and an input in memory leaves.
 use Rattle.std.specs.Prelude.{◌≡◌, ◌≢◌, ◌<◌, ◌⊎◌, if◌then◌else◌, ℕ, true, List, [], Option, Some, option_map}
 use Rattle.clap.specs.Words.{Text, fault_of}
-use Rattle.ick_explorer.specs.Written.{Written}
+use Rattle.ick_devices.specs.Written.{Written}
 use Rattle.ick_job.specs.JobEnd.{input_of}
 use Rattle.ick_job.specs.Usage.{AreMistakes, AreRequests, IsHelped, IsRefused}
 use Rattle.ick_outcomes_cli.specs.Job.{HasJob, Wanted, has_file, job_of}

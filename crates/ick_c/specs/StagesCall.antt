@@ -1,7 +1,7 @@
 -- What a call of `ick-stages` over a file and an input in memory leaves.
 use Rattle.std.specs.Prelude.{◌≡◌, ◌≢◌, ◌<◌, ◌⊎◌, if◌then◌else◌, ℕ, true, List, [], Option, Some}
 use Rattle.clap.specs.Words.{Text, fault_of}
-use Rattle.ick_explorer.specs.Written.{Written}
+use Rattle.ick_devices.specs.Written.{Written}
 use Rattle.ick_job.specs.Serve.{IsDue}
 use Rattle.ick_job.specs.Usage.{AreMistakes, AreRequests, IsHelped, IsRefused}
 use Rattle.ick_stages_cli.specs.Gives.{IsStagesServed}

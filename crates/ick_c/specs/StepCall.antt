@@ -1,8 +1,8 @@
 -- What a call of `ick-step` over a file, an input and commands in memory leaves.
-use Rattle.std.specs.Prelude.{◌≡◌, ◌≢◌, ◌<◌, ◌⊎◌, if◌then◌else◌, ℕ, true, List, [], Option, Some}
+use Rattle.std.specs.Prelude.{◌≡◌, ◌≢◌, ◌<◌, ◌⊎◌, if◌then◌else◌, ℕ, false, true, List, [], Option, Some}
 use Rattle.std.specs.Option.{option_map_or}
 use Rattle.clap.specs.Words.{Text, fault_of}
-use Rattle.ick_explorer.specs.Written.{Written}
+use Rattle.ick_devices.specs.Written.{Written}
 use Rattle.ick_job.specs.Serve.{IsDue}
 use Rattle.ick_job.specs.Usage.{AreMistakes, AreRequests, IsHelped, IsRefused}
 use Rattle.ick_step_cli.specs.Job.{HasJob, Wanted, has_file, job_of}
@@ -22,8 +22,8 @@ input_in job input = option_map_or (λ name. input) job.input []
 abbrev pub StepServed : Wanted → (source input : Option (List ℕ)) → List ℕ
     → (writer writer' errors errors' : Written) → ℕ → Type 0
 StepServed job source input commands writer writer' errors errors' status =
-    Reports (IsStepServed (IsStepAnswer job input (lines_by job.file commands) source)
-    (IsStepBegun job input (lines_by job.file commands) source) (failures_of writer) (failures_of writer')
+    Reports (IsStepServed (IsStepAnswer job input (lines_by false job.file commands) source)
+    (IsStepBegun job input (lines_by false job.file commands) source) (failures_of writer) (failures_of writer')
     writer.bytes writer'.bytes) errors errors' status
 
 -- What a call with these arguments leaves. If they ask for a job, the job is served. If not, a text of clap is written,

@@ -7,7 +7,7 @@ ghost use Rattle.ick_c.specs.Call.{Serves, ServesBytes};
 use crate::arguments::arguments_in;
 use crate::one_file::OneFile;
 use ick_cli::{one_answer, serve};
-use ick_explorer::{SliceSource, VecSink};
+use ick_devices::{SliceSource, VecSink};
 use ick_job::{Status, refuse_words};
 use std::alloc::Global;
 

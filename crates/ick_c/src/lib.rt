@@ -13,7 +13,7 @@
 #![tactic(auto)]
 
 ghost use Rattle.std.specs.Prelude.{◌≡◌, length};
-ghost use Rattle.ick_explorer.specs.Written.{Written};
+ghost use Rattle.ick_devices.specs.Written.{Written};
 ghost use Rattle.ick_job.specs.Serve.{IsStatus};
 ghost use Rattle.ick_c.specs.Call.{ServesBytes, nothing};
 ghost use Rattle.ick_c.specs.OutcomesCall.{OutcomesOfBytes};
@@ -31,7 +31,7 @@ mod stages_call;
 mod step_call;
 
 use call::answer;
-use ick_explorer::VecSink;
+use ick_devices::VecSink;
 pub use laws::one_list;
 use outcomes_call::answer_outcomes;
 use room::fill;

@@ -1,8 +1,7 @@
 //! A file in memory.
 ghost use Rattle.std.specs.Prelude.{◌≡◌, [], true};
 
-use ick_explorer::{ByteSource, DeviceFault};
-use ick_job::Files;
+use ick_devices::{ByteSource, DeviceFault, Files};
 
 /// Files that all have the same bytes, whatever their names. This source never fails.
 #[derive(Drop)]

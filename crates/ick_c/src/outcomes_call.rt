@@ -6,7 +6,7 @@ ghost use Rattle.ick_c.specs.OutcomesCall.{OutcomesOfBytes, ServesOutcomes};
 
 use crate::arguments::arguments_in;
 use crate::one_file::OneFile;
-use ick_explorer::{SliceSource, VecSink};
+use ick_devices::{SliceSource, VecSink};
 use ick_job::{Status, refuse_words};
 use ick_outcomes_cli::serve_outcomes;
 use std::alloc::Global;

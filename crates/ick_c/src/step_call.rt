@@ -6,7 +6,7 @@ ghost use Rattle.ick_c.specs.StepCall.{ServesStep, StepOfBytes};
 
 use crate::arguments::arguments_in;
 use crate::one_file::OneFile;
-use ick_explorer::{SliceSource, VecSink};
+use ick_devices::{SliceSource, VecSink};
 use ick_job::{Status, refuse_words};
 use ick_step_cli::serve_step;
 use std::alloc::Global;
@@ -63,6 +63,7 @@ fn step_over_memory(
         arguments,
         &mut OneFile::new(file),
         &mut OneFile::new(input),
+        false,
         &mut SliceSource::new(commands),
         writer,
         errors,

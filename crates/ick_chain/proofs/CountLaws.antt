@@ -3,10 +3,9 @@ use Prim.Native.Nat.{zero, suc}
 use Rattle.std.proofs.Common.{◌≡◌, inl, inr, ℕ, ◌+◌, ◌-◌, ◌<◌, ◌≤◌, Bool, true, false}
 use Rattle.std.proofs.Common.{refl, ap, sym, ◌∙◌, subst, arith}
 use Rattle.ick_code.specs.meaning.State.{State, Ending}
-use Rattle.ick_code.specs.meaning.Move.{Asking, plain, choice, ended, ask, advance}
-use Rattle.ick_code.proofs.AskLaws.{chance_between}
-use Rattle.ick_backtrack.specs.Machine.{Program}
-use Rattle.ick_backtrack.specs.Steps.{after_steps, IsPlain}
+use Rattle.ick_code.specs.meaning.Move.{Asking, plain, choice, ended}
+use Rattle.ick_outcomes.specs.Programs.{ask, advance, Program, after_steps, IsPlain}
+use Rattle.ick_outcomes.proofs.ProgramRuns.{chance_between}
 use Rattle.ick_outcomes.specs.Tallies.{Test as OutcomeTest, one, tally, tally_at_limit, tally_on}
 use Rattle.ick_chain.specs.declared.chain.Edge.{Edge}
 use Rattle.ick_chain.specs.declared.chain.Fork.{Fork}

@@ -5,7 +5,7 @@ use Rattle.std.proofs.Common.{Option, Some, None, length, slice_get, slice_index
 use Rattle.std.specs.List.{Contains}
 use Rattle.std.specs.Prelude.{IfSome, option_map}
 use Rattle.ick_code.specs.meaning.State.{State}
-use Rattle.ick_backtrack.specs.Machine.{Program}
+use Rattle.ick_outcomes.specs.Programs.{Program}
 use Rattle.ick_explorer.proofs.ListingLaws.{contains-head, contains-tail}
 use Rattle.ick_numbers.specs.Values.{natural, naturals}
 use Rattle.ick_numbers.specs.declared.natural.Natural.{Natural}

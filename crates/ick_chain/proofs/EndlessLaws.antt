@@ -4,8 +4,7 @@ use Rattle.std.proofs.Common.{◌≡◌, ◌⊎◌, inl, inr, ℕ, ◌+◌, ◌<
 use Rattle.std.proofs.Common.{refl, ap, sym, ◌∙◌, subst, arith, slice_get, slice_index_or}
 use Rattle.std.specs.Prelude.{option_map}
 use Rattle.ick_code.specs.meaning.State.{State}
-use Rattle.ick_code.specs.meaning.Move.{ask}
-use Rattle.ick_backtrack.specs.Machine.{Program}
+use Rattle.ick_outcomes.specs.Programs.{ask, Program}
 use Rattle.ick_backtrack.specs.Asked.{Finish, asked_at_end}
 use Rattle.ick_explorer.specs.Lines.{end_text}
 use Rattle.ick_numbers.specs.Values.{natural}

@@ -3,9 +3,9 @@ use Prim.Native.Nat.{zero, suc}
 use Rattle.std.proofs.Common.{◌≡◌, ℕ, ◌+◌, ◌*◌, ◌-◌, ◌^◌, ◌<◌, ◌≤◌, Bool, true, false, refl, ap, sym, ◌∙◌, subst, arith}
 use Rattle.std.proofs.Math.Nat.{mul-le-mul_left}
 use Rattle.ick_code.specs.meaning.State.{State}
-use Rattle.ick_code.specs.meaning.Move.{Asking, plain, choice, ended, ask, advance}
-use Rattle.ick_code.proofs.AskLaws.{chance_between}
-use Rattle.ick_backtrack.specs.Machine.{Program}
+use Rattle.ick_code.specs.meaning.Move.{Asking, plain, choice, ended}
+use Rattle.ick_outcomes.specs.Programs.{ask, advance, Program}
+use Rattle.ick_outcomes.proofs.ProgramRuns.{chance_between}
 use Rattle.ick_outcomes.specs.Weights.{part}
 use Rattle.ick_chain.specs.Limits.{Test, any, all_if, ended_now, ended_on, ended_weight, going_now, going_on}
 use Rattle.ick_chain.specs.Limits.{going_weight, steps_on, mean_steps}

@@ -13,22 +13,23 @@ use Rattle.std.proofs.lemmas.List.Sorted.{IsPermutation-map, IsPermutation-sym, 
 use Rattle.std.proofs.lemmas.List.Sorted.{sum_by-IsPermutation, sorted_far, ranks_by}
 use Rattle.std.proofs.lemmas.List.Sums.{sum_by-cons}
 use Rattle.ick_code.specs.meaning.State.{State}
-use Rattle.ick_backtrack.specs.Machine.{Program}
+use Rattle.ick_outcomes.specs.Programs.{Program, run}
 use Rattle.ick_explorer.specs.Order.{IsBelow, IsIncreasing}
-use Rattle.ick_explorer.specs.Runs.{run}
 use Rattle.ick_explorer.proofs.ListingLaws.{contains-nil, contains-head, contains-tail, contains-cases}
 use Rattle.ick_explorer.proofs.ListingLaws.{not_below_itself}
-use Rattle.ick_explorer.proofs.RunLaws.{compared}
+use Rattle.ick_outcomes.proofs.ProgramRuns.{compared}
 use Rattle.ick_outcomes.specs.Tallies.{Test as OutcomeTest, lesser, stop_text}
 use Rattle.ick_outcomes.proofs.Ends.{lesser-flip, test_for, test-self, test-output, test-end}
 use Rattle.ick_outcomes.proofs.Lists.{mapped-at}
 use Rattle.ick_chain.specs.Counts.{AreCounted}
-use Rattle.ick_chain.specs.ExactListings.{Line, AreLines, IsLine, HasRuns}
+use Rattle.ick_chain.specs.ExactListings.{Line, AreLines, IsLine, IsRun, HasRuns}
+use Rattle.ick_chain.specs.Fewest.{AreFewest}
+use Rattle.ick_chain.specs.Firsts.{AreSoonest}
 use Rattle.ick_chain.specs.Chains.{IsExact}
 use Rattle.ick_chain.specs.Limits.{Test, all_if}
-use Rattle.ick_chain.specs.Lines.{AreEndless, AreInOrder, AreMade, IsMade, Sorts, line_of, lines_of, row_in}
+use Rattle.ick_chain.specs.Lines.{AreEndless, AreInOrder, AreMade, IsMade, Sorts, line_of, lines_of, one_of, row_in}
 use Rattle.ick_chain.specs.Rows.{Row, AreDistinct, AreRows, AreApart, weight_of}
-use Rattle.ick_chain.specs.Shown.{AreShown}
+use Rattle.ick_chain.specs.Shown.{AreShown, IsShown}
 use Rattle.ick_chain.specs.declared.line.Line.{Line as KeptLine}
 use Rattle.ick_chain.proofs.RowLaws.{are_rows}
 
@@ -199,16 +200,24 @@ increasing-is p s (l ∷ ls) f d o = (
 
 -- each line that was made has the number of its runs and one of them
 made-line : (p : Program) (s : State) (rows : List Row) (counts : List (Option ℕ)) (shown first : List (List Bool))
-    (l : Line) → AreCounted p s rows counts → AreEndless p s rows counts → AreShown p s rows shown →
-    AreShown p s rows first → IsMade rows counts shown first l → IsLine p s l
-made-line p s rows counts shown first l a b c d m = record {
+    (l : Line) → AreCounted p s rows counts → AreEndless p s rows counts → AreFewest p s rows shown →
+    AreShown p s rows first → AreSoonest p s rows counts first → IsMade rows counts shown first l → IsLine p s l
+made-line p s rows counts shown first l a b c d o m = record {
   counted = by_count l.count m.count;
-  shown = elim m.run [
-    | inl e ↦ c.each m.at l.row l.shown m.row e
-    | inr e ↦ d.each m.at l.row l.shown m.row e
-  ];
+  shown = is-shown l.count (is-run l.count m.count m.run);
+  run = is-run l.count m.count m.run;
 }
   where
+    is-run : (n : Option ℕ) → slice_get counts m.at ≡ Some n →
+        slice_get (one_of n shown first) m.at ≡ Some l.shown → IsRun p s l.row n l.shown
+    is-run None k e = c.each m.at l.row l.shown m.row e
+    is-run (Some n) k e =
+        record { shown = d.each m.at l.row l.shown m.row e; first = o m.at n l.row l.shown m.row k e }
+
+    is-shown : (n : Option ℕ) → IsRun p s l.row n l.shown → IsShown p s l.row.output l.row.end l.shown
+    is-shown None h = h.shown
+    is-shown (Some n) h = h.shown
+
     by_count : (n : Option ℕ) → slice_get counts m.at ≡ Some n → HasRuns p s l.row n
     by_count None e = b m.at l.row m.row e
     by_count (Some n) e = a.each m.at l.row n m.row e
@@ -217,15 +226,15 @@ made-line p s rows counts shown first l a b c d m = record {
 pub are_lines : (p : Program) (s : State) (parts never steps : ℕ) (weight : Test → ℕ) (rows : List Row)
     (counts : List (Option ℕ)) (shown first : List (List Bool)) (ls xs : List Line) →
     IsExact p s parts weight never steps → AreRows weight rows → AreCounted p s rows counts →
-    AreEndless p s rows counts → AreShown p s rows shown → AreShown p s rows first →
-    AreMade rows counts shown first ls → Sorts ls xs → AreLines p s parts never xs
-are_lines p s parts never steps weight rows counts shown first ls xs exact are counted endless c d made sorts =
+    AreEndless p s rows counts → AreFewest p s rows shown → AreShown p s rows first →
+    AreSoonest p s rows counts first → AreMade rows counts shown first ls → Sorts ls xs → AreLines p s parts never xs
+are_lines p s parts never steps weight rows counts shown first ls xs exact are counted endless c d o made sorts =
     let back = IsPermutation-sym ls xs sorts.same in
     let rows' : AreRows weight (map row_in xs) =
     same-rows weight (map row_in ls) (map row_in xs) (IsPermutation-map row_in ls xs sorts.same)
     (subst (AreRows weight) (sym made.rows_are) are) in
     let each : (l : Line) → Contains xs l → IsLine p s l =
-    λ l m. made-line p s rows counts shown first l counted endless c d
+    λ l m. made-line p s rows counts shown first l counted endless c d o
     (made.each l (Contains-permutation xs ls l back m)) in
     record {
       weight = weight;

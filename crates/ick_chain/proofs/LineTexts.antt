@@ -12,7 +12,7 @@ use Rattle.ick_numbers.specs.declared.natural.Natural.{Natural}
 use Rattle.ick_outcomes.proofs.Lists.{get-mapped, take-more, take-all}
 use Rattle.ick_chain.specs.Counts.{counts_of}
 use Rattle.ick_chain.specs.ExactListings.{Line, AreLineTexts, all_runs, both, one_more}
-use Rattle.ick_chain.specs.Lines.{AppendsLine, AreMade, IsMade, line_of, lines_of, row_in}
+use Rattle.ick_chain.specs.Lines.{AppendsLine, AreMade, IsMade, line_of, lines_of, one_of, row_in}
 use Rattle.ick_chain.specs.Rows.{Row, row_of, rows_of}
 use Rattle.ick_chain.specs.Shown.{choices_of}
 use Rattle.ick_chain.specs.declared.line.Line.{Line as KeptLine}
@@ -68,7 +68,7 @@ pub made_more : (rows made rest : List Kept) (row : Kept) (counts : List (Option
     count ≡ slice_index_or counts at count → one ≡ slice_index_or shown at one →
     other ≡ slice_index_or first at other → line.row ≡ row →
     option_map natural line.count ≡ option_map natural count →
-    (line.shown.items ≡ one.items) ⊎ (line.shown.items ≡ other.items) → new ≡ lines ++ line ∷ [] →
+    line.shown.items ≡ one_of (option_map natural count) one.items other.items → new ≡ lines ++ line ∷ [] →
     IsMaking rows counts shown first (made ++ row ∷ []) new
 made_more rows made rest row counts shown first lines new line count one other at e h i lc ls lf gc gs gf er ec es en =
     subst (IsMaking rows counts shown first (made ++ row ∷ [])) (sym en) (record {
@@ -82,14 +82,17 @@ made_more rows made rest row counts shown first lines new line count one other a
               (subst (λ z. slice_get (rows_of (made ++ row ∷ rest)) z ≡ Some (row_of line.row)) (sym place)
               (got-middle made rest row ∙ ap (λ z. Some (row_of z)) (sym er)));
           count = got (λ n. option_map natural n) counts at count lc gc ∙ ap Some (sym ec);
-          run = elim es [
-            | inl d ↦ inl (got (λ (c : Vec Bool). c.items) shown at one ls gs ∙ ap Some (sym d))
-            | inr d ↦ inr (got (λ (c : Vec Bool). c.items) first at other lf gf ∙ ap Some (sym d))
-          ];
+          run = subst (λ n. slice_get (one_of n (choices_of shown) (choices_of first)) at ≡ Some line.shown.items)
+              (sym ec) (by_count (option_map natural count) es);
         })
       ];
     })
   where
+    by_count : (n : Option ℕ) → line.shown.items ≡ one_of n one.items other.items →
+        slice_get (one_of n (choices_of shown) (choices_of first)) at ≡ Some line.shown.items
+    by_count None d = got (λ (c : Vec Bool). c.items) shown at one ls gs ∙ ap Some (sym d)
+    by_count (Some n) d = got (λ (c : Vec Bool). c.items) first at other lf gf ∙ ap Some (sym d)
+
     place : at ≡ length made
     place =
         i ∙ (sym (map-long line_of lines) ∙ (sym (map-long row_in (lines_of lines))
@@ -104,22 +107,22 @@ made_all rows made rest counts shown first lines e n h = record {
 }
 
 -- the texts of the lines up to an index
-pub texts_more : (exact : Bool) (parts : ℕ) (lines : List KeptLine) (i : ℕ) (line : KeptLine) (text new : List ℕ) →
-    i < length lines → line ≡ slice_index_or lines i line → AreLineTexts exact parts (lines_of (take i lines)) text →
-    AppendsLine exact parts (line_of line) text new → AreLineTexts exact parts (lines_of (take (i + 1) lines)) new
-texts_more exact parts lines i line text new lt e h k =
+pub texts_more : (exact silent : Bool) (parts : ℕ) (lines : List KeptLine) (i : ℕ) (line : KeptLine) (text new : List ℕ) →
+    i < length lines → line ≡ slice_index_or lines i line → AreLineTexts exact silent parts (lines_of (take i lines)) text →
+    AppendsLine exact silent parts (line_of line) text new → AreLineTexts exact silent parts (lines_of (take (i + 1) lines)) new
+texts_more exact silent parts lines i line text new lt e h k =
     let next : i + 1 ≡ suc i = omega arith in
     let same : take (i + 1) lines ≡ take i lines ++ line ∷ [] =
     ap (λ z. take z lines) next ∙ (take-more lines i line lt ∙ ap (λ z. take i lines ++ z ∷ []) (sym e)) in
-    subst (λ z. AreLineTexts exact parts (lines_of z) new) (sym same)
-    (subst (λ z. AreLineTexts exact parts z new) (sym (map-pushed line_of (take i lines) line))
-    (subst (AreLineTexts exact parts (lines_of (take i lines) ++ line_of line ∷ [])) (sym k.same)
+    subst (λ z. AreLineTexts exact silent parts (lines_of z) new) (sym same)
+    (subst (λ z. AreLineTexts exact silent parts z new) (sym (map-pushed line_of (take i lines) line))
+    (subst (AreLineTexts exact silent parts (lines_of (take i lines) ++ line_of line ∷ [])) (sym k.same)
     (one_more (lines_of (take i lines)) (line_of line) text k.line h k.is_line)))
 
-pub texts_all : (exact : Bool) (parts : ℕ) (lines : List KeptLine) (i : ℕ) (text : List ℕ) → length lines ≤ i →
-    AreLineTexts exact parts (lines_of (take i lines)) text → AreLineTexts exact parts (lines_of lines) text
-texts_all exact parts lines i text le h =
-    subst (λ z. AreLineTexts exact parts (lines_of z) text) (take-all lines i le) h
+pub texts_all : (exact silent : Bool) (parts : ℕ) (lines : List KeptLine) (i : ℕ) (text : List ℕ) → length lines ≤ i →
+    AreLineTexts exact silent parts (lines_of (take i lines)) text → AreLineTexts exact silent parts (lines_of lines) text
+texts_all exact silent parts lines i text le h =
+    subst (λ z. AreLineTexts exact silent parts (lines_of z) text) (take-all lines i le) h
 
 -- the runs of lines
 both-swap : (a : Option ℕ) → both a (Some 0) ≡ both (Some 0) a

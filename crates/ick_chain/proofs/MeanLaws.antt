@@ -4,10 +4,9 @@ use Rattle.std.proofs.Common.{◌≡◌, inl, inr, ℕ, ◌+◌, ◌*◌, ◌-�
 use Rattle.std.proofs.Common.{slice_get, refl, ap, sym, ◌∙◌, subst, arith}
 use Rattle.std.proofs.Math.Nat.{mul-le-mul_left}
 use Rattle.ick_code.specs.meaning.State.{State, Ending}
-use Rattle.ick_code.specs.meaning.Move.{plain, choice, ended, ask, advance}
-use Rattle.ick_code.proofs.AskLaws.{chance_between}
-use Rattle.ick_backtrack.specs.Machine.{Program}
-use Rattle.ick_backtrack.specs.Steps.{after_steps, IsPlain, RunsOn}
+use Rattle.ick_code.specs.meaning.Move.{plain, choice, ended}
+use Rattle.ick_outcomes.specs.Programs.{ask, advance, Program, after_steps, IsPlain, RunsOn}
+use Rattle.ick_outcomes.proofs.ProgramRuns.{chance_between}
 use Rattle.ick_chain.specs.declared.chain.Fork.{Fork}
 use Rattle.ick_chain.specs.declared.chain.Node.{Node}
 use Rattle.ick_chain.specs.declared.chain.Node.TheVariants.{Ends, Goes, Stuck}
@@ -20,7 +19,7 @@ after-shift : (p : Program) (s : State) (k : ℕ) → after_steps p s (suc k) �
 after-shift p s zero = refl
 after-shift p s (suc k) = ap (λ t. advance p t false) (after-shift p s k)
 
-runs-shift : (p : Program) (s t : State) (k : ℕ) → RunsOn IsPlain p s (suc k) t → RunsOn IsPlain p (advance p s false) k t
+runs-shift : (p : Program) (s t : State) (k : ℕ) → RunsOn p s (suc k) t → RunsOn p (advance p s false) k t
 runs-shift p s t k r = record {
   leads = r.leads ∙ after-shift p s k;
   on = λ i lt. subst (λ z. IsPlain p z) (after-shift p s i) (r.on (suc i) (omega (arith, lt)));
@@ -120,7 +119,7 @@ edge-mean x k d h =
 module _ (p : Program) (seen : ℕ → State) (nodes : List Node) (h : IsChain p seen nodes) (d most : ℕ) (e : ℕ → ℕ)
     (m : AreMeans nodes d e) (b : AreBounded nodes d most e) where
   start : (node : Node) (at steps x : ℕ) (s : State) → slice_get nodes at ≡ Some node →
-      RunsOn IsPlain p s steps (seen at) → x ≡ e at + steps * d → x ≤ most → IsPinned p d most s x 0
+      RunsOn p s steps (seen at) → x ≡ e at + steps * d → x ≤ most → IsPinned p d most s x 0
   start node at (suc k) x s g r c le = going-pinned p d most x s le (going-zero p s plain (r.on 0 (omega arith)))
   start Ends at zero x s g r c le =
       let a = subst (λ z. IsNode p seen z Ends) r.leads (h at Ends g) in
@@ -136,7 +135,7 @@ module _ (p : Program) (seen : ℕ → State) (nodes : List Node) (h : IsChain p
   fork : (l : ℕ) (f : Fork) (x : ℕ) (s : State) → IsFork p seen s f → IsBounded nodes d most e f →
       100 * x ≡ d * steps_at (Goes f) + out e f →
       ((node : Node) (at steps x : ℕ) (s : State) → slice_get nodes at ≡ Some node →
-      RunsOn IsPlain p s steps (seen at) → x ≡ e at + steps * d → x ≤ most → IsPinned p d most s x l) →
+      RunsOn p s steps (seen at) → x ≡ e at + steps * d → x ≤ most → IsPinned p d most s x l) →
       IsPinned p d most s x (suc l)
   fork l f x s (inl k) i c rest =
       let y = e f.zero.to + (f.zero.steps - 1) * d in
@@ -176,7 +175,7 @@ module _ (p : Program) (seen : ℕ → State) (nodes : List Node) (h : IsChain p
       (let n = i.least_zero in omega (arith, n, ey)))
 
   pub pinned : (l : ℕ) (node : Node) (at steps x : ℕ) (s : State) → slice_get nodes at ≡ Some node →
-      RunsOn IsPlain p s steps (seen at) → x ≡ e at + steps * d → x ≤ most → IsPinned p d most s x l
+      RunsOn p s steps (seen at) → x ≡ e at + steps * d → x ≤ most → IsPinned p d most s x l
   pinned zero node at steps x s g r c le = start node at steps x s g r c le
   pinned (suc l) node at (suc k) x s g r c le =
       let w : suc k * d ≡ k * d + d = grind arith in

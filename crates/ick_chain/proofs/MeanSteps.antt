@@ -1,7 +1,7 @@
 -- Proves that the mean of the first node is that of the runs of a program.
 use Rattle.std.proofs.Common.{◌≡◌, ℕ, ◌<◌, List, Some, length, slice_get, slice_index_or, subst, arith}
 use Rattle.ick_code.specs.meaning.State.{State}
-use Rattle.ick_backtrack.specs.Machine.{Program}
+use Rattle.ick_outcomes.specs.Programs.{Program}
 use Rattle.ick_numbers.specs.declared.natural.Natural.{Natural}
 use Rattle.ick_chain.specs.declared.chain.Node.{Node}
 use Rattle.ick_chain.specs.declared.chain.Node.TheVariants.{Ends}

@@ -3,13 +3,12 @@ use Prim.Native.Nat.{zero, suc}
 use Rattle.std.proofs.Common.{◌≡◌, ◌⊎◌, inl, inr, ℕ, ◌+◌, ◌-◌, ◌<◌, Bool, true, false, List, [], ◌∷◌, ◌++◌, Some, None}
 use Rattle.std.proofs.Common.{length, slice_get, slice_index_or, refl, ap, sym, ◌∙◌, subst, arith}
 use Rattle.ick_code.specs.meaning.State.{State, Ending, gave_up, faulted}
-use Rattle.ick_code.specs.meaning.Move.{Asking, plain, choice, ended, advance}
+use Rattle.ick_code.specs.meaning.Move.{Asking, plain, choice, ended}
+use Rattle.ick_outcomes.specs.Programs.{advance, Program, IsPlain, RunsOn}
 use Rattle.ick_backtrack.specs.Asked.{asked_of, IsGoing}
 use Rattle.ick_backtrack.specs.declared.asking.End.{End}
 use Rattle.ick_backtrack.specs.declared.asking.End.TheVariants.{GiveUp, Fault, Limit}
 use Rattle.ick_backtrack.specs.declared.asking.Ask.TheVariants.{Plain, Choice, Ended}
-use Rattle.ick_backtrack.specs.Machine.{Program}
-use Rattle.ick_backtrack.specs.Steps.{IsPlain, RunsOn}
 use Rattle.ick_outcomes.specs.Accounts.{Configuration}
 use Rattle.ick_chain.specs.declared.chain.Edge.{Edge}
 use Rattle.ick_chain.specs.declared.chain.Fork.{Fork}
@@ -164,7 +163,7 @@ leads_of : (p : Program) (ss : List State) (d s : State) (b : Bool) (e : Edge) �
     Leads p (state_or d ss) s b e
 leads_of p ss d s b e r = record {
   some = r.some;
-  runs = subst (λ z. RunsOn IsPlain p (advance p s b) (e.steps - 1) z) (sym (or_got ss e.to d r.to r.there)) r.runs;
+  runs = subst (λ z. RunsOn p (advance p s b) (e.steps - 1) z) (sym (or_got ss e.to d r.to r.there)) r.runs;
 }
 
 fork_of : (p : Program) (ss : List State) (d s : State) (f : Fork) → Forks p ss s f → IsFork p (state_or d ss) s f

@@ -1,20 +1,17 @@
 -- Proves that a search finds different states, each of which can be reached.
 use Prim.Native.Nat.{zero, suc}
-use Rattle.std.proofs.Common.{◌≡◌, ◌⊎◌, inl, inr, ℕ, ◌+◌, ◌<◌, ◌≤◌, Bool, true, false, List, [], ◌∷◌, ◌++◌, Some, None}
+use Rattle.std.proofs.Common.{◌≡◌, ◌⊎◌, inl, inr, ℕ, ◌+◌, ◌<◌, ◌≤◌, Bool, false, List, [], ◌∷◌, ◌++◌, Some, None}
 use Rattle.std.proofs.Common.{length, slice_get, slice_index_or, refl, ap, sym, ◌∙◌, subst, arith}
 use Rattle.std.specs.HashMap.{HashMap}
-use Rattle.std.proofs.lemmas.List.{map-append}
 use Rattle.ick_code.specs.meaning.State.{State}
-use Rattle.ick_code.specs.meaning.Move.{ask, advance}
+use Rattle.ick_outcomes.specs.Programs.{ask, advance, Program, IsPlain, RunsOn, after_steps}
 use Rattle.ick_backtrack.specs.Asked.{IsGoing}
-use Rattle.ick_backtrack.specs.Machine.{Program}
-use Rattle.ick_backtrack.specs.Steps.{IsPlain, RunsOn, after_steps}
 use Rattle.ick_outcomes.specs.Accounts.{Configuration}
 use Rattle.ick_outcomes.specs.Keys.{Lacks}
 use Rattle.ick_outcomes.proofs.Lists.{at-pushed}
 use Rattle.ick_chain.specs.Places.{AllSuit, states_in}
 use Rattle.ick_chain.specs.Reached.{led, AreMade, IsReached, AreReached, AreDifferent, HasMoreStates, TakesMore}
-use Rattle.ick_chain.specs.Reached.{node_bytes, bytes_of}
+use Rattle.ick_chain.specs.Reached.{AreFoundBy, node_bytes, bytes_of}
 use Rattle.ick_chain.specs.Found.{IsFound, IsIndexed, IsNew, IsReachedIn}
 use Rattle.ick_chain.specs.declared.search.Found.{Found}
 use Rattle.ick_chain.proofs.Placing.{got_in, plain_going, states_long}
@@ -39,7 +36,7 @@ reached_next p s t b r g = record {
 }
 
 -- plain steps more
-pub reached_plain : (p : Program) (s t u : State) (k : ℕ) → IsReached p s t → RunsOn IsPlain p t k u →
+pub reached_plain : (p : Program) (s t u : State) (k : ℕ) → IsReached p s t → RunsOn p t k u →
     IsReached p s u
 reached_plain p s t u k r runs = subst (IsReached p s) (sym runs.leads) (by_steps k (omega arith))
   where
@@ -52,7 +49,7 @@ reached_plain p s t u k r runs = subst (IsReached p s) (sym runs.leads) (by_step
 -- the state after a step and plain steps is reached from the first state, as the one before is
 pub reached_on : (p : Program) (ss : List State) (at : ℕ) (s u : State) (b : Bool) (k : ℕ) →
     ((i : ℕ) (t : State) → slice_get ss i ≡ Some t → IsReachedIn p ss t) → slice_get ss at ≡ Some s →
-    IsGoing (ask p s) → RunsOn IsPlain p (advance p s b) k u → IsReachedIn p ss u
+    IsGoing (ask p s) → RunsOn p (advance p s b) k u → IsReachedIn p ss u
 reached_on p ss at s u b k h g going runs first f =
     reached_plain p first (advance p s b) u k (reached_next p first s b (h at s g first f) going) runs
 
@@ -171,14 +168,15 @@ module _ {S : Type 0} (p : Program) (seen : S → Configuration) (suits : S → 
   all_reached found s h f i t g = h.reached i t g s f
 
   -- more states were found than are allowed
-  pub more_states : (found : Found S) (s : State) (most : ℕ) → IsFound p seen suits key size found →
+  pub more_states : (found : Found S) (s : State) (most steps : ℕ) → IsFound p seen suits key size found →
       slice_get (states_in seen found.states.items) 0 ≡ Some s → most < length found.states.items →
-      HasMoreStates p s most
-  more_states found s most h f lt = record {
+      AreFoundBy p (states_in seen found.states.items) steps → HasMoreStates p s most steps
+  more_states found s most steps h f lt by = record {
     states = states_in seen found.states.items;
     more = (let l = states_long seen found.states.items in omega (arith, l, lt));
     different = h.different;
     reached = all_reached found s h f;
+    found = by;
   }
 
   -- they take more bytes than are allowed

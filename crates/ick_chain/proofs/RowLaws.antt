@@ -4,8 +4,8 @@ use Rattle.std.proofs.Common.{◌≡◌, ℕ, ◌+◌, ◌<◌, Bool, true, fals
 use Rattle.std.proofs.Common.{inl, inr, length, take, slice_get, slice_index_or, refl, ap, sym, ◌∙◌, subst, arith}
 use Rattle.std.specs.List.{Contains}
 use Rattle.ick_code.specs.meaning.State.{State, Ending}
-use Rattle.ick_code.specs.meaning.Move.{ended, ask}
-use Rattle.ick_backtrack.specs.Machine.{Program}
+use Rattle.ick_code.specs.meaning.Move.{ended}
+use Rattle.ick_outcomes.specs.Programs.{ask, Program}
 use Rattle.ick_backtrack.specs.Asked.{Finish, finished, at_limit, asked_at_end}
 use Rattle.ick_explorer.specs.Lines.{end_text}
 use Rattle.ick_explorer.proofs.ListingLaws.{contains-nil, contains-head, contains-tail, contains-cases}
@@ -19,7 +19,7 @@ use Rattle.ick_chain.specs.Limits.{Test, all_if}
 use Rattle.ick_chain.specs.Places.{IsFull, Tells}
 use Rattle.ick_chain.specs.Rows.{Row, AreDistinct, AreRows, IsTestOf, weight_of, any_outcome}
 use Rattle.ick_chain.specs.Tallied.{by_end, of_states}
-use Rattle.ick_chain.proofs.TallyLaws.{ended-is}
+use Rattle.ick_outcomes.proofs.ProgramRuns.{end_is}
 
 -- the row of the runs that end in a state weighs what the state weighs, for each test
 pub row_weight : (p : Program) (s : State) (finish : Finish) (output end : List ℕ) (weight given : ℕ) →
@@ -27,7 +27,7 @@ pub row_weight : (p : Program) (s : State) (finish : Finish) (output end : List 
     (q : OutcomeTest) → all_if (q output end) weight ≡ all_if (of_states q s) given
 row_weight p s (finished e) output end weight given h o t w q =
     let a : ended e ≡ ask p s = cc in
-    let i : s.end ≡ Some e = ended-is p s e (sym a) in
+    let i : s.end ≡ Some e = end_is p s e (sym a) in
     ap (λ x. all_if (q x end) weight) o
     ∙ (ap (λ x. all_if (q s.output x) weight) t
     ∙ (ap (λ x. all_if (q s.output (end_text (finished e))) x) w
@@ -125,7 +125,7 @@ rows_whole p seen ns ys rows forever parts ends are whole =
     let w = whole t in
     let a = are.whole any_outcome in
     let z = passing-zero (λ i. negate (t (seen i))) ns ys (λ i h. let x = ends i h in
-    ap (λ o. negate (by_end any_outcome (seen i).output o)) (ended-is p (seen i) x.0 x.1)) in
+    ap (λ o. negate (by_end any_outcome (seen i).output o)) (end_is p (seen i) x.0 x.1)) in
     omega (arith, w, a, z)
 
 -- visits of stuck nodes, with one more node

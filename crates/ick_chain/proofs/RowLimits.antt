@@ -2,10 +2,10 @@
 use Rattle.std.proofs.Common.{◌≡◌, ℕ, ◌+◌, ◌*◌, ◌^◌, Bool, true, false, List, refl, ap, sym, ◌∙◌, arith}
 use Rattle.std.proofs.Math.Nat.{mul-le-mul_left}
 use Rattle.ick_code.specs.meaning.State.{State}
-use Rattle.ick_backtrack.specs.Machine.{Program}
+use Rattle.ick_outcomes.specs.Programs.{Program, run}
 use Rattle.ick_backtrack.specs.Asked.{at_limit}
 use Rattle.ick_explorer.specs.Lines.{end_text}
-use Rattle.ick_explorer.specs.Runs.{run, ends}
+use Rattle.ick_explorer.specs.Runs.{ends}
 use Rattle.ick_explorer.proofs.ListingLaws.{lists_unique}
 use Rattle.ick_outcomes.specs.Summaries.{AreRunsOf, HasOutcome}
 use Rattle.ick_outcomes.specs.Tallies.{Passes, stop_text}
@@ -19,17 +19,17 @@ use Rattle.ick_chain.specs.Tallied.{IsOfEnded, of_states}
 use Rattle.ick_chain.proofs.TallyLaws.{tallied as weights_tallied}
 use Rattle.ick_chain.proofs.Unique.{pinned}
 
-is-test : (output end : List ℕ) → IsTestOf output end (test_for output end)
+pub is-test : (output end : List ℕ) → IsTestOf output end (test_for output end)
 is-test output end = record {
   passed = test-self output end;
   alone = λ o e h. (sym (test-output output end o e h), sym (test-end output end o e h));
 }
 
-false-of : (b : Bool) → (b ≡ true → ⊥) → b ≡ false
+pub false-of : (b : Bool) → (b ≡ true → ⊥) → b ≡ false
 false-of true f = absurd (f refl)
 false-of false f = refl
 
-of-ended : (output end : List ℕ) → (end ≡ end_text at_limit → ⊥) → IsOfEnded (test_for output end)
+pub of-ended : (output end : List ℕ) → (end ≡ end_text at_limit → ⊥) → IsOfEnded (test_for output end)
 of-ended output end f = record {
   limit = λ o. false-of (test_for output end o (stop_text (ends at_limit)))
       (λ h. f (test-end output end o (stop_text (ends at_limit)) h));

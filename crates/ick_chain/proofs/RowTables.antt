@@ -50,9 +50,6 @@ indexed_set places rs j old new h lt e a b = λ i d lt'.
     (subst (λ z. Lacks places (key_of z old.end.items)) a
     (subst (λ z. Lacks places (key_of new.output.items z)) b n))))
 
--- the lemmas on the index that a function uses together
-pub ruleset indexed = (indexed_push, indexed_set)
-
 pub no_row_at : (rs : List Kept) (more : Kept) (at : ℕ) → length rs ≤ at →
     ((k : ℕ) (d : Kept) → k < at → AreApart (row_of (slice_index_or rs k d)) (row_of more)) →
     (x : Row) → Contains (rows_of rs) x → AreApart x (row_of more)
@@ -161,6 +158,3 @@ adds_at rs i more old new lt m e a b w =
           ∙ ap (λ o. all_if (q more.output.items o) (natural more.weight) + weight_of q (rows_of rs)) s.same_end);
       apart = distinct-set (rows_of rs) i (row_of old) (row_of new) g a b;
     })
-
--- the lemmas on rows that a function uses together
-pub ruleset adds = (adds_new, adds_at)

@@ -1,16 +1,16 @@
 -- Proves that the choices that are shown lead where they should.
 use Prim.Native.Nat.{zero, suc}
-use Rattle.std.proofs.Common.{◌≡◌, ◌⊎◌, inl, inr, ℕ, ◌+◌, ◌<◌, Bool, List, [], ◌∷◌, ◌++◌, Some, None}
+use Rattle.std.proofs.Common.{◌≡◌, ◌⊎◌, inl, inr, ℕ, ◌+◌, ◌-◌, ◌<◌, Bool, List, [], ◌∷◌, ◌++◌, Some, None}
 use Rattle.std.proofs.Common.{length, slice_get, slice_index_or, refl, ap, sym, ◌∙◌, subst, arith}
 use Rattle.std.specs.Global.{Vec}
 use Rattle.std.proofs.lemmas.List.{append-nil}
 use Rattle.ick_code.specs.meaning.State.{State}
-use Rattle.ick_code.specs.meaning.Move.{ask, ended}
-use Rattle.ick_backtrack.specs.Machine.{Program, Machine}
+use Rattle.ick_code.specs.meaning.Move.{ended}
+use Rattle.ick_outcomes.specs.Programs.{ask, Program, run}
 use Rattle.ick_backtrack.specs.Asked.{Finish, finished, at_limit, asked_at_end}
 use Rattle.ick_explorer.specs.Lines.{end_text}
-use Rattle.ick_explorer.specs.Runs.{run, Execution, ends, IsEnd}
-use Rattle.ick_explorer.proofs.RunLaws.{Leads-ends, ends_finished}
+use Rattle.ick_explorer.specs.Runs.{Execution, ends, IsEnd}
+use Rattle.ick_outcomes.proofs.ProgramRuns.{Leads-ends, run-ended}
 use Rattle.ick_outcomes.specs.Tallies.{stop_text}
 use Rattle.ick_outcomes.proofs.Lists.{get-mapped}
 use Rattle.ick_chain.specs.declared.chain.Node.{Node}
@@ -29,9 +29,9 @@ is_shown p s c t (finished e) output end h a o w = record {
   least = h.steps;
   has = λ l le.
       let asked : ended e ≡ ask p t = cc in
-      let m : Machine = record { program = p; state = t; marks = []; work = 0 } in
       let r : run p s l (c ++ []) ≡ record { last = t; stop = ends (finished e); steps = h.steps; unused = [] } =
-      Leads-ends s l m c [] h.steps (finished e) (h.leads l le) (ends_finished l m h.steps e (sym asked)) in
+      Leads-ends p s l c [] t h.steps (finished e) (h.leads l le)
+      (λ d. run-ended p t (l - h.steps) d e (sym asked)) in
       let d : run p s l c ≡ record { last = t; stop = ends (finished e); steps = h.steps; unused = [] } =
       ap (run p s l) (sym (append-nil c)) ∙ r in
       record {

@@ -1,32 +1,15 @@
 -- Proves that the weights under a limit are those of tallies.
 use Prim.Native.Nat.{zero, suc}
-use Rattle.std.proofs.Common.{◌≡◌, ℕ, ◌+◌, ◌*◌, ◌-◌, ◌^◌, Bool, true, false, Option, Some, None, if◌then◌else◌, refl, ap, sym, ◌∙◌}
-use Rattle.ick_syntax.specs.StatementTree.{StatementTree}
-use Rattle.ick_code.specs.meaning.State.{State, Ending, statement_at}
-use Rattle.ick_code.specs.meaning.Move.{Asking, plain, choice, ended, ask, ask_at, ask_of, advance, is_uncertain}
-use Rattle.ick_backtrack.specs.Machine.{Program}
+use Rattle.std.proofs.Common.{◌≡◌, ℕ, ◌+◌, ◌*◌, ◌-◌, ◌^◌, Bool, true, false, refl, ap, sym, ◌∙◌}
+use Rattle.ick_code.specs.meaning.State.{State, Ending}
+use Rattle.ick_code.specs.meaning.Move.{Asking, plain, choice, ended}
+use Rattle.ick_outcomes.specs.Programs.{ask, advance, Program}
+use Rattle.ick_outcomes.proofs.ProgramRuns.{end_is}
 use Rattle.ick_backtrack.specs.Asked.{finished}
 use Rattle.ick_explorer.specs.Runs.{ends}
 use Rattle.ick_chain.specs.Limits.{all_if, ended_now, ended_on, ended_weight, going_now, going_on, going_weight}
 use Rattle.ick_outcomes.specs.Tallies.{Test, Tally, one, tally, tally_at_limit, tally_on, stop_text}
 use Rattle.ick_chain.specs.Tallied.{by_end, of_states, IsOfEnded, IsOfLimit, AreTallied}
-
--- a state that has ended says how
-uncertain-not : (b : Bool) (c : ℕ) (e : Ending) → (if b then choice c else plain) ≡ ended e → ⊥
-uncertain-not true c e h = cc
-uncertain-not false c e h = cc
-
-at-not : (found : Option StatementTree) (s : State) (e : Ending) → ask_at found s ≡ ended e → ⊥
-at-not None s e h = cc
-at-not (Some t) s e h = uncertain-not (is_uncertain t (s.abstained s.place)) t.chance e h
-
-end-is : (end : Option Ending) (p : Program) (s : State) (e : Ending) → ask_of end p s ≡ ended e → end ≡ Some e
-end-is None p s e h = absurd (at-not (statement_at p s.place) s e h)
-end-is (Some x) p s e h = let z : ended x ≡ ended e = h in let w : x ≡ e = cc in ap Some w
-
-pub ended-is : (p : Program) (s : State) (e : Ending) → ask p s ≡ ended e → s.end ≡ Some e
-unfolding ask
-ended-is p s e h = end-is s.end p s e h
 
 one-weight : (b : Bool) (l : ℕ) → (one b l).weight ≡ all_if b (100 ^ l)
 one-weight true l = refl
@@ -34,7 +17,7 @@ one-weight false l = refl
 
 pub test-is : (q : Test) (p : Program) (s : State) (e : Ending) → ask p s ≡ ended e →
     q s.output (stop_text (ends (finished e))) ≡ of_states q s
-test-is q p s e h = sym (ap (λ o. by_end q s.output o) (ended-is p s e h))
+test-is q p s e h = sym (ap (λ o. by_end q s.output o) (end_is p s e h))
 
 ended-start : (p : Program) (q : Test) → IsOfEnded q → (s : State) (a : Asking) → ask p s ≡ a →
     (tally_at_limit q a s).weight ≡ ended_now (of_states q) a s

@@ -3,8 +3,8 @@ use Prim.Native.Nat.{zero, suc}
 use Rattle.std.proofs.Common.{◌≡◌, ◌⊎◌, inl, inr, ℕ, ◌+◌, ◌*◌, ◌-◌, ◌^◌, ◌<◌, ◌≤◌, Bool, true, false, refl, ap, ◌∙◌, arith}
 use Rattle.std.proofs.Math.Nat.{mul-le-mul_left, le_of_mul-le-mul_right}
 use Rattle.ick_code.specs.meaning.State.{State}
-use Rattle.ick_code.specs.meaning.Move.{Asking, plain, choice, ended, ask, advance}
-use Rattle.ick_backtrack.specs.Machine.{Program}
+use Rattle.ick_code.specs.meaning.Move.{Asking, plain, choice, ended}
+use Rattle.ick_outcomes.specs.Programs.{ask, advance, Program}
 use Rattle.ick_chain.specs.Limits.{Test, any, all_if, ended_now, ended_on, ended_weight, going_weight}
 use Rattle.ick_chain.specs.Chains.{IsExact, negate, IsOneAnswer}
 use Rattle.ick_chain.proofs.LimitLaws.{ended-zero, ended-suc, whole}

@@ -4,13 +4,11 @@ use Rattle.std.proofs.Common.{◌≡◌, inl, inr, ℕ, ◌+◌, ◌-◌, ◌<�
 use Rattle.std.proofs.Common.{if◌then◌else◌, length, take, slice_index_or, refl, ap, sym, ◌∙◌, subst, arith}
 use Rattle.std.proofs.Common.{append_assoc, length-append}
 use Rattle.ick_code.specs.meaning.State.{State}
-use Rattle.ick_code.specs.meaning.Move.{plain, choice, ask, advance}
-use Rattle.ick_code.proofs.AskLaws.{chance_between}
-use Rattle.ick_backtrack.specs.Machine.{Program}
-use Rattle.ick_backtrack.specs.Steps.{IsPlain, RunsOn}
+use Rattle.ick_code.specs.meaning.Move.{plain, choice}
+use Rattle.ick_outcomes.specs.Programs.{ask, advance, Program, IsPlain, RunsOn, run}
+use Rattle.ick_outcomes.proofs.ProgramRuns.{chance_between, Leads-start, Leads-plain, Leads-on, Leads-choice}
 use Rattle.ick_explorer.specs.Paths.{later}
-use Rattle.ick_explorer.specs.Runs.{Execution, run}
-use Rattle.ick_explorer.proofs.RunLaws.{Leads-start, Leads-plain, Leads-on, Leads-choice}
+use Rattle.ick_explorer.specs.Runs.{Execution}
 use Rattle.ick_chain.specs.declared.chain.Edge.{Edge}
 use Rattle.ick_chain.specs.declared.chain.Fork.{Fork}
 use Rattle.ick_chain.specs.declared.chain.Node.{Node}
@@ -23,7 +21,7 @@ lead_start : (p : Program) (s : State) → LeadTo p s [] s
 lead_start p s = record { steps = 0; leads = λ l le. Leads-start p s l }
 
 lead_plain : (p : Program) (s : State) (c : List Bool) (t u : State) (k : ℕ) → LeadTo p s c t → ask p t ≡ plain →
-    RunsOn IsPlain p (advance p t false) k u → LeadTo p s c u
+    RunsOn p (advance p t false) k u → LeadTo p s c u
 lead_plain p s c t u k h a r = record {
   steps = h.steps + 1 + k;
   leads = λ l le.
@@ -33,7 +31,7 @@ lead_plain p s c t u k h a r = record {
 }
 
 lead_choice : (p : Program) (s : State) (c : List Bool) (t u : State) (k n : ℕ) (b : Bool) → LeadTo p s c t →
-    ask p t ≡ choice n → RunsOn IsPlain p (advance p t b) k u → LeadTo p s (c ++ b ∷ []) u
+    ask p t ≡ choice n → RunsOn p (advance p t b) k u → LeadTo p s (c ++ b ∷ []) u
 lead_choice p s c t u k n b h a r = record {
   steps = h.steps + 1 + k;
   leads = λ l le.

@@ -1,5 +1,5 @@
 -- Defines what the answer of a search says: a chain, and how often its nodes are visited.
-use Rattle.ick_backtrack.specs.Machine.{Program}
+use Rattle.ick_outcomes.specs.Programs.{Program}
 use Rattle.ick_numbers.specs.Values.{natural, naturals}
 use Rattle.ick_outcomes.specs.Accounts.{Configuration}
 use Rattle.ick_chain.specs.Chains.{IsSolution}

@@ -3,9 +3,8 @@ use Prim.Native.Nat.{suc}
 use Rattle.std.specs.Prelude.{◌≡◌, ◌⊎◌, ℕ, ◌+◌, ◌*◌, ◌-◌, ◌^◌, ◌<◌, ◌≤◌, Bool, true, false, List, [], ◌∷◌}
 use Rattle.std.specs.Prelude.{length, slice_get, Some}
 use Rattle.ick_code.specs.meaning.State.{State, Ending}
-use Rattle.ick_code.specs.meaning.Move.{plain, choice, ended, ask, advance}
-use Rattle.ick_backtrack.specs.Machine.{Program}
-use Rattle.ick_backtrack.specs.Steps.{IsPlain, RunsOn}
+use Rattle.ick_code.specs.meaning.Move.{plain, choice, ended}
+use Rattle.ick_outcomes.specs.Programs.{ask, advance, Program, IsPlain, RunsOn}
 use Rattle.ick_chain.specs.declared.chain.Edge.{Edge}
 use Rattle.ick_chain.specs.declared.chain.Fork.{Fork}
 use Rattle.ick_chain.specs.declared.chain.Node.{Node}
@@ -16,7 +15,7 @@ use Rattle.ick_chain.specs.Limits.{Test, all_if, ended_weight, going_weight, mea
 -- a step with this answer and then plain steps, as many as the edge says in all, lead from s to the edge's node
 pub record Leads (p : Program) (seen : ℕ → State) (s : State) (b : Bool) (e : Edge) : Type 0 where
   pub some : 0 < e.steps
-  pub runs : RunsOn IsPlain p (advance p s b) (e.steps - 1) (seen e.to)
+  pub runs : RunsOn p (advance p s b) (e.steps - 1) (seen e.to)
 
 -- s asks for a choice, and both answers lead to nodes
 pub record IsChoice (p : Program) (seen : ℕ → State) (s : State) (f : Fork) : Type 0 where

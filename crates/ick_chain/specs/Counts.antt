@@ -6,7 +6,7 @@ use Rattle.std.specs.List.{Contains}
 use Rattle.ick_numbers.specs.Values.{natural}
 use Rattle.ick_numbers.specs.declared.natural.Natural.{Natural}
 use Rattle.ick_code.specs.meaning.State.{State}
-use Rattle.ick_backtrack.specs.Machine.{Program}
+use Rattle.ick_outcomes.specs.Programs.{Program}
 use Rattle.ick_outcomes.specs.Tallies.{Test as OutcomeTest, tally}
 use Rattle.ick_chain.specs.declared.chain.Fork.{Fork}
 use Rattle.ick_chain.specs.declared.chain.Node.{Node}

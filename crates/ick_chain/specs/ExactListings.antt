@@ -1,16 +1,19 @@
 -- Defines the listing of the outcomes of a program without a limit.
 use Rattle.std.specs.Prelude.{◌≡◌, ℕ, ◌+◌, ◌<◌, Bool, true, false, List, [], ◌∷◌, ◌++◌, length, map, codes, decimal}
-use Rattle.std.specs.Prelude.{Option, Some, None}
+use Rattle.std.specs.Prelude.{Option, Some, None, if◌then◌else◌}
 use Rattle.std.specs.List.{Contains}
+use Rattle.std.specs.Str.{bytes_eq}
 use Rattle.ick_bits.specs.Quoted.{quoted}
 use Rattle.ick_code.specs.meaning.State.{State}
-use Rattle.ick_backtrack.specs.Machine.{Program}
+use Rattle.ick_outcomes.specs.Programs.{Program}
 use Rattle.ick_explorer.specs.ChoiceTexts.{choices_text}
 use Rattle.ick_explorer.specs.Order.{IsIncreasing}
 use Rattle.ick_outcomes.specs.Tallies.{Test as OutcomeTest}
+use Rattle.ick_outcomes.specs.Lines.{output_text}
 use Rattle.ick_outcomes.specs.Texts.{IsNumberText}
 use Rattle.ick_chain.specs.Chains.{IsExact}
 use Rattle.ick_chain.specs.Counts.{CountsRuns}
+use Rattle.ick_chain.specs.FirstRuns.{IsFewest, IsFirst}
 use Rattle.ick_chain.specs.ExactTexts.{IsRatio, IsWeight}
 use Rattle.ick_chain.specs.Limits.{Test}
 use Rattle.ick_chain.specs.Means.{IsMeanOf}
@@ -33,10 +36,17 @@ abbrev pub HasRuns : Program → State → Row → Option ℕ → Type 0
 HasRuns p s r None = HasEndlessRuns p s r
 HasRuns p s r (Some n) = (q : OutcomeTest) → IsTestOf r.output r.end q → IsOfEnded q → CountsRuns p s q n
 
+-- the choices of the run that is shown for a row: the first of its runs, in the order of listings. If its runs aren't
+-- counted, it is the first of those with the fewest choices
+abbrev pub IsRun : Program → State → Row → Option ℕ → List Bool → Type 0
+IsRun p s r None c = IsFewest p s r.output r.end c
+IsRun p s r (Some n) c = IsFirst p s r.output r.end c
+
 -- a line has the number of the runs with its outcome, and the choices of one of them
 pub record IsLine (p : Program) (s : State) (l : Line) : Type 0 where
   pub counted : HasRuns p s l.row l.count
   pub shown : IsShown p s l.row.output l.row.end l.shown
+  pub run : IsRun p s l.row l.count l.shown
 
 -- the lines have all outcomes with exact weights, in so many parts, in the order of the choices. Runs that never end
 -- have the weight `never`
@@ -53,40 +63,41 @@ pub data IsCount : Option ℕ → List ℕ → Type 0 where
   number : (n : ℕ) (text : List ℕ) → IsNumberText n text → IsCount (Some n) text
   star : IsCount None (codes "*")
 
-abbrev pub line_parts : Line → (count weight : List ℕ) → List ℕ
-line_parts l count weight = count ++ codes " " ++ weight ++ codes " " ++ choices_text l.shown ++ codes " " ++ l.row.end
-    ++ codes " " ++ quoted l.row.output ++ codes "\n"
+abbrev pub line_parts : (silent : Bool) → Line → (count weight : List ℕ) → List ℕ
+line_parts silent l count weight = count ++ codes " " ++ weight ++ codes " " ++ choices_text l.shown ++ codes " "
+    ++ l.row.end ++ output_text silent l.row.output ++ codes "\n"
 
--- the text of a line: the number of its runs, their weight, the choices, the end and the output
-pub record IsLineText (exact : Bool) (parts : ℕ) (l : Line) (text : List ℕ) : Type 0 where
+-- the text of a line: the number of its runs, their weight, the choices, the end and the output, if it isn't left out
+pub record IsLineText (exact silent : Bool) (parts : ℕ) (l : Line) (text : List ℕ) : Type 0 where
   pub count : List ℕ
   pub weight : List ℕ
   pub counted : IsCount l.count count
   pub weighed : IsWeight exact l.row.weight parts weight
-  pub same : text ≡ line_parts l count weight
+  pub same : text ≡ line_parts silent l count weight
 
 -- the texts of lines, one after another
-pub data AreLineTexts (exact : Bool) (parts : ℕ) : List Line → List ℕ → Type 0 where
-  no_line : AreLineTexts exact parts [] []
-  one_more : (ls : List Line) (l : Line) (text line : List ℕ) → AreLineTexts exact parts ls text →
-      IsLineText exact parts l line → AreLineTexts exact parts (ls ++ l ∷ []) (text ++ line)
+pub data AreLineTexts (exact silent : Bool) (parts : ℕ) : List Line → List ℕ → Type 0 where
+  no_line : AreLineTexts exact silent parts [] []
+  one_more : (ls : List Line) (l : Line) (text line : List ℕ) → AreLineTexts exact silent parts ls text →
+      IsLineText exact silent parts l line → AreLineTexts exact silent parts (ls ++ l ∷ []) (text ++ line)
 
-abbrev pub never_parts : List ℕ → List Bool → List ℕ
-never_parts weight c = codes "* " ++ weight ++ codes " " ++ choices_text c ++ codes " NEVER \"\"\n"
+abbrev pub never_parts : (silent : Bool) → List ℕ → List Bool → List ℕ
+never_parts silent weight c = codes "* " ++ weight ++ codes " " ++ choices_text c ++ codes " NEVER"
+    ++ output_text silent [] ++ codes "\n"
 
 -- the text of the runs that never end: none if they weigh nothing, and else with choices that lead to a state from
 -- which no run ends
 pub data IsNeverText (p : Program) (s : State) (exact : Bool) (parts never : ℕ) : List ℕ → Type 0 where
   nothing : never ≡ 0 → IsNeverText p s exact parts never []
   something : (c : List Bool) (weight : List ℕ) → 0 < never → NeverEnds p s c → IsWeight exact never parts weight →
-      IsNeverText p s exact parts never (never_parts weight c)
+      IsNeverText p s exact parts never (never_parts p.silent weight c)
 
 -- the lines, the line of the runs that never end, and a last line
 pub record IsListText (p : Program) (s : State) (exact : Bool) (parts never : ℕ) (ls : List Line) (text : List ℕ)
     : Type 0 where
   pub lines : List ℕ
   pub last : List ℕ
-  pub are_lines : AreLineTexts exact parts ls lines
+  pub are_lines : AreLineTexts exact p.silent parts ls lines
   pub is_last : IsNeverText p s exact parts never last
   pub same : text ≡ lines ++ last ++ codes "DONE\n"
 
@@ -108,14 +119,22 @@ pub record IsMeanText (p : Program) (s : State) (text : List ℕ) : Type 0 where
   pub mean : IsMeanOf p s parts steps
   pub text_is : IsRatio steps parts text
 
+-- a number and a noun, which is in the plural unless the number is 1
+abbrev pub counted : (digits noun : List ℕ) → List ℕ
+counted digits noun = digits ++ codes " " ++ noun ++ (if bytes_eq digits (codes "1") then [] else codes "S")
+
+-- so many outcomes and runs
+abbrev pub numbers_text : ℕ → (runs : List ℕ) → List ℕ
+numbers_text outcomes runs = counted (decimal outcomes) (codes "OUTCOME") ++ codes ", " ++ counted runs (codes "RUN")
+
 -- The line that says how many outcomes and runs there are. Runs that never end are infinitely many. If runs that end
 -- are infinitely many, and none never ends, it has the mean number of their steps too
 pub data IsTotal (p : Program) (s : State) (never : ℕ) (ls : List Line) : List ℕ → Type 0 where
   finite : (n : ℕ) (runs : List ℕ) → never ≡ 0 → all_runs ls ≡ Some n → IsNumberText n runs →
-      IsTotal p s never ls (decimal (length ls) ++ codes " OUTCOMES, " ++ runs ++ codes " RUNS\n")
-  stuck : 0 < never → IsTotal p s never ls (decimal (length ls) ++ codes " OUTCOMES, * RUNS\n")
+      IsTotal p s never ls (numbers_text (length ls) runs ++ codes "\n")
+  stuck : 0 < never → IsTotal p s never ls (numbers_text (length ls) (codes "*") ++ codes "\n")
   endless : (mean : List ℕ) → never ≡ 0 → all_runs ls ≡ None → IsMeanText p s mean → IsTotal p s never ls
-      (decimal (length ls) ++ codes " OUTCOMES, * RUNS, " ++ mean ++ codes " STEPS\n")
+      (numbers_text (length ls) (codes "*") ++ codes ", " ++ mean ++ codes " STEPS\n")
 
 abbrev pub IsTextOf : Program → State → (exact total : Bool) → (parts never : ℕ) → List Line → List ℕ → Type 0
 IsTextOf p s exact true parts never ls text = IsTotal p s never ls text

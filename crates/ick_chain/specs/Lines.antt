@@ -1,11 +1,11 @@
 -- Defines how the lines of a listing come from rows, their counts and the runs that are shown.
-use Rattle.std.specs.Prelude.{◌≡◌, ◌⊎◌, ℕ, ◌<◌, Bool, List, [], ◌∷◌, ◌++◌, length, map, slice_get, Option, Some}
+use Rattle.std.specs.Prelude.{◌≡◌, ℕ, ◌<◌, Bool, List, [], ◌∷◌, ◌++◌, length, map, slice_get, Option, Some}
 use Rattle.std.specs.Prelude.{None, option_map}
 use Rattle.std.specs.List.{Contains}
 use Rattle.std.specs.List.Sorted.{IsPermutation}
 use Rattle.ick_numbers.specs.Values.{natural}
 use Rattle.ick_code.specs.meaning.State.{State}
-use Rattle.ick_backtrack.specs.Machine.{Program}
+use Rattle.ick_outcomes.specs.Programs.{Program}
 use Rattle.ick_outcomes.specs.Tallies.{lesser}
 use Rattle.ick_chain.specs.ExactListings.{Line, HasEndlessRuns, IsLineText}
 use Rattle.ick_chain.specs.Rows.{Row, row_of}
@@ -23,13 +23,18 @@ lines_of ls = map line_of ls
 abbrev pub row_in : Line → Row
 row_in l = l.row
 
--- a line has the row, the count and one of the runs with an index
+-- the second of two if there is a count, and else the first
+abbrev pub one_of : {A : Type 0} → Option ℕ → A → A → A
+one_of None shown first = shown
+one_of (Some n) shown first = first
+
+-- a line has the row, the count and one of the runs with an index: the second if it has a count
 pub record IsMade (rows : List Row) (counts : List (Option ℕ)) (shown first : List (List Bool)) (l : Line)
     : Type 0 where
   pub at : ℕ
   pub row : slice_get rows at ≡ Some l.row
   pub count : slice_get counts at ≡ Some l.count
-  pub run : (slice_get shown at ≡ Some l.shown) ⊎ (slice_get first at ≡ Some l.shown)
+  pub run : slice_get (one_of l.count shown first) at ≡ Some l.shown
 
 -- lines were made from rows, one from each, in their order
 pub record AreMade (rows : List Row) (counts : List (Option ℕ)) (shown first : List (List Bool)) (ls : List Line)
@@ -53,9 +58,9 @@ AreEndless p s rows counts = (i : ℕ) (r : Row) → slice_get rows i ≡ Some r
     HasEndlessRuns p s r
 
 -- the text of a line was appended
-pub record AppendsLine (exact : Bool) (parts : ℕ) (l : Line) (old new : List ℕ) : Type 0 where
+pub record AppendsLine (exact silent : Bool) (parts : ℕ) (l : Line) (old new : List ℕ) : Type 0 where
   pub line : List ℕ
-  pub is_line : IsLineText exact parts l line
+  pub is_line : IsLineText exact silent parts l line
   pub same : new ≡ old ++ line
 
 -- choices lead to a node, from there to itself by some choice, and on to another

@@ -3,9 +3,8 @@ use Rattle.std.specs.Prelude.{◌≡◌, ◌⊎◌, ℕ, ◌-◌, ◌<◌, Bool,
 use Rattle.std.specs.Prelude.{Some, slice_index_or}
 use Rattle.std.specs.List.{All}
 use Rattle.ick_code.specs.meaning.State.{State, Ending}
-use Rattle.ick_code.specs.meaning.Move.{plain, choice, ended, ask, advance}
-use Rattle.ick_backtrack.specs.Machine.{Program}
-use Rattle.ick_backtrack.specs.Steps.{IsPlain, RunsOn}
+use Rattle.ick_code.specs.meaning.Move.{plain, choice, ended}
+use Rattle.ick_outcomes.specs.Programs.{ask, advance, Program, IsPlain, RunsOn}
 use Rattle.ick_outcomes.specs.Accounts.{Configuration}
 use Rattle.ick_chain.specs.declared.chain.Edge.{Edge}
 use Rattle.ick_chain.specs.declared.chain.Fork.{Fork}
@@ -17,7 +16,7 @@ pub record Reaches (p : Program) (ss : List State) (s : State) (b : Bool) (e : E
   pub to : State
   pub there : slice_get ss e.to ≡ Some to
   pub some : 0 < e.steps
-  pub runs : RunsOn IsPlain p (advance p s b) (e.steps - 1) to
+  pub runs : RunsOn p (advance p s b) (e.steps - 1) to
 
 pub record ForksByChoice (p : Program) (ss : List State) (s : State) (f : Fork) : Type 0 where
   pub asks : ask p s ≡ choice f.chance

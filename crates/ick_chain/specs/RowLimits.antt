@@ -2,7 +2,7 @@
 use Rattle.std.specs.Prelude.{◌≡◌, ℕ, ◌+◌, ◌*◌, ◌^◌, ◌≤◌, List, [], Bool}
 use Rattle.std.specs.List.{Contains}
 use Rattle.ick_code.specs.meaning.State.{State}
-use Rattle.ick_backtrack.specs.Machine.{Program}
+use Rattle.ick_outcomes.specs.Programs.{Program}
 use Rattle.ick_backtrack.specs.Asked.{at_limit}
 use Rattle.ick_explorer.specs.Lines.{end_text}
 use Rattle.ick_outcomes.specs.Summaries.{AreRunsOf, Row as Listed}

@@ -2,9 +2,7 @@
 use Rattle.std.specs.Prelude.{◌≡◌, ℕ, ◌≤◌, Bool, List, length, map, Some, slice_get}
 use Rattle.std.specs.Global.{Vec}
 use Rattle.ick_code.specs.meaning.State.{State}
-use Rattle.ick_backtrack.specs.Machine.{Program}
-use Rattle.ick_explorer.specs.Paths.{Leads}
-use Rattle.ick_explorer.specs.Runs.{run, IsWhole}
+use Rattle.ick_outcomes.specs.Programs.{Program, Leads, run, IsWhole}
 use Rattle.ick_outcomes.specs.Tallies.{stop_text}
 use Rattle.ick_chain.specs.Limits.{any, ended_weight}
 use Rattle.ick_chain.specs.Chains.{IsChain}

@@ -1,7 +1,7 @@
 -- Defines how weights under a limit are those of tallies, and so of lists of runs.
 use Rattle.std.specs.Prelude.{◌≡◌, ℕ, Bool, true, false, List, Option, Some, None}
 use Rattle.ick_code.specs.meaning.State.{State, Ending}
-use Rattle.ick_backtrack.specs.Machine.{Program}
+use Rattle.ick_outcomes.specs.Programs.{Program}
 use Rattle.ick_backtrack.specs.Asked.{finished, at_limit}
 use Rattle.ick_explorer.specs.Runs.{ends}
 use Rattle.ick_outcomes.specs.Tallies.{Test, stop_text, tally}

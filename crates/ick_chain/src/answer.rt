@@ -1,13 +1,17 @@
 //! Weighs all runs of a program without a limit.
 
-ghost use Rattle.std.specs.Prelude.{◌≡◌, ◌<◌, slice_get, Some, Err, IfOk};
+ghost use Rattle.std.specs.Prelude.{◌≡◌, ◌<◌, ℕ, slice_get, Some, Err, IfOk};
 ghost use Rattle.ick_numbers.specs.Values.{natural, naturals};
 ghost use Rattle.ick_chain.specs.Chains.{IsExact, passing, never, all_steps};
 ghost use Rattle.ick_chain.specs.Answers.{IsAnswer};
 ghost use Rattle.ick_chain.specs.Places.{states_in, state_or, AllSuit, IsFull};
-ghost use Rattle.ick_chain.specs.Reached.{AreDifferent, HasMoreStates, TakesMore};
+ghost use Rattle.ick_chain.specs.Kept.{KeepsMore};
+ghost use Rattle.ick_chain.specs.Progress.{OnlyShows};
+ghost use Rattle.ick_chain.specs.Reached.{AreDifferent, AreReached, HasMoreStates, TakesMore};
 
 use crate::errors::ChainError;
+use crate::memory::states_bytes;
+use crate::progress::Progress;
 use crate::search::{Chain, explore};
 use crate::solving::solve;
 use crate::stuck::mark_stuck;
@@ -27,7 +31,7 @@ pub struct Answer<S: Drop> {
 }
 
 /// Finds the chain of a program, with the nodes marked from which no end can be reached.
-fn find_chain<'c, P: States<'c>>(
+fn find_chain<'c, P: States<'c>, E: Progress>(
     alloc: Global,
     program: &P,
     tools: &mut P::Tools,
@@ -35,6 +39,7 @@ fn find_chain<'c, P: States<'c>>(
     stretch: u32,
     most: usize,
     memory: u64,
+    progress: &mut E,
 ) -> Result<Chain<P::State>, ChainError>
     requires tools { P.serves program.now tools.old }
     requires state { P.suits program.now state }
@@ -47,26 +52,33 @@ fn find_chain<'c, P: States<'c>>(
     ensures states { IfOk result (λ chain. AllSuit (P.suits program.now) chain.states.items) }
     ensures different { IfOk result (λ chain. AreDifferent
         (states_in (P.seen program.now) chain.states.items)) }
-    ensures many { result ≡ Err ChainError.TooManyStates → HasMoreStates (P.text program.now)
-        (P.seen program.now state).state most }
+    ensures many { (steps : ℕ) → result ≡ Err (ChainError.TooManyStates steps) →
+        HasMoreStates (P.text program.now) (P.seen program.now state).state most steps }
+    ensures reached { IfOk result (λ chain. AreReached (P.text program.now)
+        (P.seen program.now state).state (states_in (P.seen program.now) chain.states.items)) }
     ensures much { result ≡ Err ChainError.TooMuchKept → TakesMore (P.text program.now)
         (P.seen program.now) (P.suits program.now) (P.size program.now)
         (P.seen program.now state).state memory }
+    ensures shown { OnlyShows E.told E.failed E.written E.shows progress.old progress.new }
 {
-    let mut chain = explore(alloc, program, tools, state, stretch, most, memory)?;
+    let mut chain = explore(
+        alloc, program, tools, state, stretch, most, memory, progress,
+    )?;
     mark_stuck(alloc, &mut chain.nodes)?;
     Ok(chain)
 }
 
 /// Weighs all runs of a program from a state, without a limit on steps. `list_outcomes` lists the
 /// outcomes of the answer. Plain steps are made at most `stretch` at a time. At most `most` states
-/// are kept, and at most `memory` bytes for them, as `bytes_of` counts them. The state must be of
-/// the program, and the tools must be for it.
+/// are kept, and at most `memory` bytes for them and in the rows of the solver, as `bytes_of` and
+/// `solver_bytes` count them. The state must be of the program, and the tools must be for it.
 ///
-/// `TooManyStates` is returned only if more than `most` different states can be reached, and
-/// `TooMuchKept` only if different states that can be reached take more than `memory` bytes. The
-/// other refusals are `NoMemory` and `NotSolved`. No contract speaks of them.
-pub fn weigh<'c, P: States<'c>>(
+/// `TooManyStates` is returned only if more than `most` different states can be reached. It has the
+/// number of steps that found them, or 2^64 - 1 if the number is greater. `TooMuchKept` is returned
+/// only if different states that can be reached, and what a solver keeps for them, take more than
+/// `memory` bytes. The other refusals are `NoMemory` and `NotSolved`. No contract speaks of them.
+#[tactic(auto, using(crate::proofs::KeptLaws::keeps_states, crate::proofs::KeptLaws::keeps_solver))]
+pub fn weigh<'c, P: States<'c>, E: Progress>(
     alloc: Global,
     program: &P,
     tools: &mut P::Tools,
@@ -74,6 +86,7 @@ pub fn weigh<'c, P: States<'c>>(
     stretch: u32,
     most: usize,
     memory: u64,
+    progress: &mut E,
 ) -> Result<Answer<P::State>, ChainError>
     requires tools { P.serves program.now tools.old }
     requires state { P.suits program.now state }
@@ -92,14 +105,20 @@ pub fn weigh<'c, P: States<'c>>(
         ≡ Some (P.seen program.now state).state) }
     ensures different { IfOk result (λ a. AreDifferent
         (states_in (P.seen program.now) a.chain.states.items)) }
-    ensures many { result ≡ Err ChainError.TooManyStates → HasMoreStates (P.text program.now)
-        (P.seen program.now state).state most }
-    ensures much { result ≡ Err ChainError.TooMuchKept → TakesMore (P.text program.now)
+    ensures many { (steps : ℕ) → result ≡ Err (ChainError.TooManyStates steps) →
+        HasMoreStates (P.text program.now) (P.seen program.now state).state most steps }
+    ensures reached { IfOk result (λ a. AreReached (P.text program.now)
+        (P.seen program.now state).state (states_in (P.seen program.now) a.chain.states.items)) }
+    ensures much { result ≡ Err ChainError.TooMuchKept → KeepsMore (P.text program.now)
         (P.seen program.now) (P.suits program.now) (P.size program.now)
         (P.seen program.now state).state memory }
+    ensures shown { OnlyShows E.told E.failed E.written E.shows progress.old progress.new }
 {
-    let chain = find_chain(alloc, program, tools, state, stretch, most, memory)?;
-    let solution = solve(alloc, &chain.nodes)?;
+    let chain = find_chain(
+        alloc, program, tools, state, stretch, most, memory, progress,
+    )?;
+    let room = memory.saturating_sub(states_bytes(program, &chain.states));
+    let solution = solve(alloc, &chain.nodes, room, progress)?;
     Ok(Answer {
         chain,
         visits: solution.numbers,

@@ -1,10 +1,18 @@
 //! Solves for the visits of a chain modulo a prime. Nothing rests on it.
 
+ghost use Rattle.std.specs.Prelude.{◌≡◌, ℕ, length, Err};
+ghost use Rattle.ick_chain.specs.Kept.{HasMoreEntries};
+
 use crate::chain::{Edge, Node};
+use crate::errors::ChainError;
+use crate::memory::count_entries;
 use crate::modular::{inverse, minus, plus, times};
 use crate::ordering::Queue;
 use ick_bits::NoMemory;
 use std::alloc::Global;
+
+/// What is kept for each entry of a row: a part of a row, a source, and a part of an equation.
+const ENTRY_BYTES: u64 = 40;
 
 /// A node, and a number of visits of another that go to it.
 #[derive(Clone, Copy)]
@@ -22,6 +30,8 @@ struct System {
     live: Vec<usize>,
     gone: Vec<bool>,
     prime: u32,
+    /// How many entries were added to rows.
+    entries: u64,
 }
 
 /// The visits of a node: a number of its own, and parts of the visits of other nodes.
@@ -99,6 +109,7 @@ fn connect(system: &mut System, from: usize, to: usize, part: u32) -> Result<(),
     if from < system.rows.len() && to < system.sources.len() {
         if add_part(&mut system.rows[from], to, part, system.prime)? {
             system.sources[to].push(from)?;
+            system.entries = system.entries.saturating_add(1);
             if from != to {
                 gain_source(&mut system.live, to);
             }
@@ -153,6 +164,7 @@ fn empty(alloc: Global, count: usize, prime: u32) -> Result<System, NoMemory> {
         live,
         gone,
         prime,
+        entries: 0,
     })
 }
 
@@ -306,6 +318,42 @@ fn cheapest(system: &System, queue: &mut Queue) -> Option<usize> {
     None
 }
 
+/// Refuses more than `room` bytes for the entries of a system of so many nodes. `NotSolved` means
+/// that an entry was added twice. No program is known that gets it.
+#[tactic(auto, using(crate::proofs::KeptLaws::more_entries))]
+fn limit_entries(alloc: Global, system: &System, count: usize, room: u64) -> Result<(), ChainError>
+    ensures many { (steps : ℕ) → result ≡ Err (ChainError.TooManyStates steps) → ⊥ }
+    ensures much { result ≡ Err ChainError.TooMuchKept → HasMoreEntries count room }
+{
+    if ENTRY_BYTES.saturating_mul(system.entries) <= room {
+        return Ok(());
+    }
+    let entries = count_entries(alloc, &system.sources, count)?;
+    if ENTRY_BYTES.saturating_mul(entries) > room {
+        return Err(ChainError::TooMuchKept);
+    }
+    Err(ChainError::NotSolved)
+}
+
+/// Eliminates a node, and appends its equation.
+fn append_equation(
+    alloc: Global,
+    system: &mut System,
+    own: &mut [u32],
+    node: usize,
+    queue: &mut Queue,
+    equations: &mut Vec<Equation>,
+) -> Result<(), NoMemory> {
+    equations.push(eliminate(alloc, system, own, node, queue)?)?;
+    Ok(())
+}
+
+/// Appends a node to an order of elimination.
+fn append_node(order: &mut Vec<usize>, node: usize) -> Result<(), NoMemory> {
+    order.push(node)?;
+    Ok(())
+}
+
 /// Eliminates all nodes that go on, the cheapest first, and notes the order.
 fn eliminate_cheapest(
     alloc: Global,
@@ -313,14 +361,19 @@ fn eliminate_cheapest(
     nodes: &[Node],
     own: &mut [u32],
     order: &mut Vec<usize>,
-) -> Result<Vec<Equation>, NoMemory> {
+    room: u64,
+) -> Result<Vec<Equation>, ChainError>
+    ensures many { (steps : ℕ) → result ≡ Err (ChainError.TooManyStates steps) → ⊥ }
+    ensures much { result ≡ Err ChainError.TooMuchKept → HasMoreEntries (length nodes.now) room }
+{
     let mut queue = Queue::new(alloc)?;
     queue_all(system, nodes, &mut queue)?;
     let mut equations = Vec::new(alloc);
     'nodes: for turn in 0..nodes.len() {
         if let Some(node) = cheapest(system, &mut queue) {
-            order.push(node)?;
-            equations.push(eliminate(alloc, system, own, node, &mut queue)?)?;
+            append_node(order, node)?;
+            append_equation(alloc, system, own, node, &mut queue, &mut equations)?;
+            limit_entries(alloc, system, nodes.len(), room)?;
         }
     }
     Ok(equations)
@@ -332,11 +385,17 @@ fn eliminate_ordered(
     system: &mut System,
     own: &mut [u32],
     order: &[usize],
-) -> Result<Vec<Equation>, NoMemory> {
+    count: usize,
+    room: u64,
+) -> Result<Vec<Equation>, ChainError>
+    ensures many { (steps : ℕ) → result ≡ Err (ChainError.TooManyStates steps) → ⊥ }
+    ensures much { result ≡ Err ChainError.TooMuchKept → HasMoreEntries count room }
+{
     let mut queue = Queue::closed(alloc);
     let mut equations = Vec::new(alloc);
     'nodes: for turn in 0..order.len() {
-        equations.push(eliminate(alloc, system, own, order[turn], &mut queue)?)?;
+        append_equation(alloc, system, own, order[turn], &mut queue, &mut equations)?;
+        limit_entries(alloc, system, count, room)?;
     }
     Ok(equations)
 }
@@ -468,23 +527,33 @@ fn arrive_all(visits: &mut [u32], nodes: &[Node], prime: u32) {
     }
 }
 
+/// Returns the visits that begin at each node: one at the first.
+fn first_visits(alloc: Global, count: usize) -> Result<Vec<u32>, NoMemory> {
+    let mut visits = Vec::new(alloc);
+    'nodes: for at in 0..count {
+        visits.push(if at == 0 { 1 } else { 0 })?;
+    }
+    Ok(visits)
+}
+
 /// Returns the visits of all nodes modulo a prime. `order` has the order of elimination, or is
-/// empty and gets it.
+/// empty and gets it. The entries of rows may take at most `room` bytes.
 pub(crate) fn visits_modulo(
     alloc: Global,
     nodes: &[Node],
     order: &mut Vec<usize>,
     prime: u32,
-) -> Result<Vec<u32>, NoMemory> {
+    room: u64,
+) -> Result<Vec<u32>, ChainError>
+    ensures many { (steps : ℕ) → result ≡ Err (ChainError.TooManyStates steps) → ⊥ }
+    ensures much { result ≡ Err ChainError.TooMuchKept → HasMoreEntries (length nodes.now) room }
+{
     let mut system = system_of(alloc, nodes, prime)?;
-    let mut visits = Vec::new(alloc);
-    'nodes: for at in 0..nodes.len() {
-        visits.push(if at == 0 { 1 } else { 0 })?;
-    }
+    let mut visits = first_visits(alloc, nodes.len())?;
     let equations = if order.is_empty() {
-        eliminate_cheapest(alloc, &mut system, nodes, &mut visits, order)?
+        eliminate_cheapest(alloc, &mut system, nodes, &mut visits, order, room)?
     } else {
-        eliminate_ordered(alloc, &mut system, &mut visits, order)?
+        eliminate_ordered(alloc, &mut system, &mut visits, order, nodes.len(), room)?
     };
     put_back(&mut visits, &equations, prime);
     arrive_all(&mut visits, nodes, prime);

@@ -1,8 +1,10 @@
 //! Adds rows to a table.
 
-ghost use Rattle.std.specs.Prelude.{◌≡◌, ◌<◌, [], slice_index_or, length, OnOk, IfSome, IfNone};
+ghost use Rattle.std.specs.Prelude.{◌≡◌, ◌<◌, ℕ, List, [], slice_index_or, length, OnOk, IfSome};
+ghost use Rattle.std.specs.Prelude.{IfNone};
 ghost use Rattle.std.specs.List.{Contains};
 ghost use Rattle.ick_outcomes.specs.Keys.{key_of};
+ghost use Rattle.ick_chain.specs.Ranks.{HasRank};
 ghost use Rattle.ick_chain.specs.RowKeys.{IsIndexed};
 ghost use Rattle.ick_chain.specs.Rows.{AreApart, Adds, SameRow, row_of, rows_of};
 ghost use Rattle.ick_chain.specs.Rows.{Row as Meant};
@@ -53,10 +55,15 @@ fn find_outcome(table: &Table, key: u64, more: &Row) -> Option<usize>
 }
 
 /// Adds the runs of a row to the row with the same outcome, or appends it.
-#[tactic(auto, using(crate::proofs::RowTables::adds, crate::proofs::RowTables::indexed))]
+#[tactic(auto, using(crate::proofs::Ranking::filing))]
 pub(crate) fn add_row(table: &mut Table, more: Row) -> Result<(), NoMemory>
-    ensures { OnOk result (Adds (rows_of table.old.rows.items) (row_of more)
+    ensures adds { OnOk result (Adds (rows_of table.old.rows.items) (row_of more)
         (rows_of table.new.rows.items)) }
+    ensures kept { OnOk result ((output end : List ℕ) (rank : ℕ) →
+        HasRank table.old.rows.items output end rank →
+        HasRank table.new.rows.items output end rank) }
+    ensures ranked { OnOk result (HasRank table.new.rows.items more.output.items more.end.items
+        more.rank.breadth) }
 {
     let key = key(&more);
     match find_outcome(table, key, &more) {

@@ -2,12 +2,14 @@
 
 ghost use Rattle.std.specs.Prelude.{ℕ, List};
 ghost use Rattle.ick_code.specs.meaning.State.{State};
-ghost use Rattle.ick_backtrack.specs.Machine.{Program};
+ghost use Rattle.ick_outcomes.specs.Programs.{Program};
 ghost use Rattle.ick_chain.specs.declared.chain.Node.{Node};
 ghost use Rattle.ick_chain.specs.Chains.{IsOneAnswer};
 ghost use Rattle.ick_chain.specs.Tallied.{AreTallied};
 ghost use Rattle.ick_chain.specs.Means.{AreExactMeans};
 ghost use Rattle.ick_chain.specs.RowLimits.{AreNear};
+ghost use Rattle.ick_chain.specs.GreaterLimits.{AreLasting};
+ghost use Rattle.ick_chain.specs.Settled.{AreAllSettled, AreSettled};
 
 /// States that the runs from a state have one exact answer at most.
 pub fn one_answer()
@@ -28,4 +30,18 @@ pub fn weights_are_tallied()
 /// steps, and fall short of it by at most the mean number of steps divided by the limit.
 pub fn rows_are_near()
     ensures { (p : Program) (s : State) → AreNear p s }
+{}
+
+/// States that a summary under a limit that has no row of runs at the limit is the summary under
+/// each greater limit.
+pub fn summaries_last()
+    ensures { (p : Program) (s : State) → AreLasting p s }
+{}
+
+/// States that each line of an exact listing with a number of runs is a row of each summary from
+/// some limit on: with the same outcome, number of runs, weight and first run. If each line has a
+/// number of runs, and no run never ends, the summary has no other row.
+pub fn finite_rows_settle()
+    ensures rows { (p : Program) (s : State) → AreSettled p s }
+    ensures all { (p : Program) (s : State) → AreAllSettled p s }
 {}

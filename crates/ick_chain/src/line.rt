@@ -1,9 +1,9 @@
 //! Lines of a listing without a limit: outcomes with their weights and counts, in order.
 
-ghost use Rattle.std.specs.Prelude.{◌≡◌, ◌⊎◌, [], ◌∷◌, ◌++◌, option_map, OnOk, IfOk};
+ghost use Rattle.std.specs.Prelude.{◌≡◌, [], ◌∷◌, ◌++◌, option_map, OnOk, IfOk};
 ghost use Rattle.ick_numbers.specs.Values.{natural};
 ghost use Rattle.ick_chain.specs.Counts.{counts_of};
-ghost use Rattle.ick_chain.specs.Lines.{AreMade, Sorts, lines_of};
+ghost use Rattle.ick_chain.specs.Lines.{AreMade, Sorts, lines_of, one_of};
 ghost use Rattle.ick_chain.specs.Rows.{rows_of};
 ghost use Rattle.ick_chain.specs.Shown.{choices_of};
 
@@ -48,8 +48,8 @@ fn make_line(
     ensures row { IfOk result (λ line. line.row ≡ row) }
     ensures count { IfOk result (λ line.
         option_map natural line.count ≡ option_map natural count.now) }
-    ensures run { IfOk result (λ line.
-        (line.shown.items ≡ shown.now) ⊎ (line.shown.items ≡ first.now)) }
+    ensures run { IfOk result (λ line. line.shown.items
+        ≡ one_of (option_map natural count.now) shown.now first.now) }
 {
     let choices = if count.is_some() { first } else { shown };
     let count = copy_count(count)?;

@@ -2,8 +2,9 @@
 
 ghost use Rattle.std.specs.Prelude.{◌≡◌, ◌<◌, ◌++◌, option_map, IfOk, IfSome, IfNone, OnOk};
 ghost use Rattle.ick_code.specs.meaning.State.{State as Meant};
-ghost use Rattle.ick_backtrack.specs.Machine.{Program};
+ghost use Rattle.ick_outcomes.specs.Programs.{Program};
 ghost use Rattle.ick_numbers.specs.Values.{natural};
+ghost use Rattle.ick_outcomes.specs.Lines.{output_text};
 ghost use Rattle.ick_chain.specs.ExactListings.{AreLineTexts, IsCount, IsListText, IsNeverText};
 ghost use Rattle.ick_chain.specs.ExactListings.{line_parts, never_parts};
 ghost use Rattle.ick_chain.specs.Lines.{AppendsLine, line_of, lines_of};
@@ -29,10 +30,29 @@ fn count_text(alloc: Global, count: &Option<Natural>) -> Result<Vec<u8>, NoMemor
     }
 }
 
-/// Appends a line with the texts of its count and of its weight: `COUNT WEIGHT FIRST END OUTPUT`.
-fn append_parts(out: &mut Vec<u8>, line: &Line, count: &[u8], weight: &[u8]) -> Result<(), NoMemory>
+/// Appends a blank and an output in quotes, or nothing if the output is left out.
+fn append_output(out: &mut Vec<u8>, output: &[u8], silent: bool) -> Result<(), NoMemory>
+    ensures { OnOk result (out.new.items ≡ out.old.items ++ output_text silent output.now) }
+{
+    if silent {
+        return Ok(());
+    }
+    out.push(b' ')?;
+    append_quoted(out, output)?;
+    Ok(())
+}
+
+/// Appends a line with the texts of its count and of its weight: `COUNT WEIGHT FIRST END OUTPUT`,
+/// without OUTPUT if it is left out.
+fn append_parts(
+    out: &mut Vec<u8>,
+    line: &Line,
+    count: &[u8],
+    weight: &[u8],
+    silent: bool,
+) -> Result<(), NoMemory>
     ensures { OnOk result (out.new.items ≡ out.old.items
-        ++ line_parts (line_of line.now) count.now weight.now) }
+        ++ line_parts silent (line_of line.now) count.now weight.now) }
 {
     out.extend_from_slice(count)?;
     out.push(b' ')?;
@@ -41,8 +61,7 @@ fn append_parts(out: &mut Vec<u8>, line: &Line, count: &[u8], weight: &[u8]) -> 
     append_choices(out, &line.shown)?;
     out.push(b' ')?;
     out.extend_from_slice(&line.row.end)?;
-    out.push(b' ')?;
-    append_quoted(out, &line.row.output)?;
+    append_output(out, &line.row.output, silent)?;
     out.push(b'\n')?;
     Ok(())
 }
@@ -54,14 +73,15 @@ fn append_line(
     parts: &Natural,
     line: &Line,
     exact: bool,
+    silent: bool,
 ) -> Result<(), ChainError>
     requires { 0 < natural parts.now }
-    ensures { OnOk result (AppendsLine exact (natural parts.now) (line_of line.now)
+    ensures { OnOk result (AppendsLine exact silent (natural parts.now) (line_of line.now)
         out.old.items out.new.items) }
 {
     let count = count_text(alloc, &line.count)?;
     let weight = part_text(alloc, &line.row.weight, parts, exact)?;
-    append_parts(out, line, &count, &weight)?;
+    append_parts(out, line, &count, &weight, silent)?;
     Ok(())
 }
 
@@ -71,28 +91,36 @@ fn lines_text(
     parts: &Natural,
     lines: &[Line],
     exact: bool,
+    silent: bool,
 ) -> Result<Vec<u8>, ChainError>
     requires { 0 < natural parts.now }
-    ensures { IfOk result (λ text. AreLineTexts exact (natural parts.now) (lines_of lines.now)
-        text.items) }
+    ensures { IfOk result (λ text. AreLineTexts exact silent (natural parts.now)
+        (lines_of lines.now) text.items) }
 {
     let mut text = Vec::new(alloc);
     'lines: for line in lines {
-        append_line(alloc, &mut text, parts, line, exact)?;
+        append_line(alloc, &mut text, parts, line, exact, silent)?;
     }
     Ok(text)
 }
 
 /// Appends the line of the runs that never end, with the text of their weight.
-fn append_never(out: &mut Vec<u8>, weight: &[u8], choices: &[bool]) -> Result<(), NoMemory>
+fn append_never(
+    out: &mut Vec<u8>,
+    weight: &[u8],
+    choices: &[bool],
+    silent: bool,
+) -> Result<(), NoMemory>
     ensures { OnOk result (out.new.items ≡ out.old.items
-        ++ never_parts weight.now choices.now) }
+        ++ never_parts silent weight.now choices.now) }
 {
     out.extend_from_slice(b"* ")?;
     out.extend_from_slice(weight)?;
     out.push(b' ')?;
     append_choices(out, choices)?;
-    out.extend_from_slice(b" NEVER \"\"\n")?;
+    out.extend_from_slice(b" NEVER")?;
+    append_output(out, b"", silent)?;
+    out.push(b'\n')?;
     Ok(())
 }
 
@@ -104,10 +132,11 @@ fn never_text(
     never: &Natural,
     stuck: &Option<Vec<bool>>,
     exact: bool,
+    silent: bool,
 ) -> Result<Vec<u8>, ChainError>
     requires some { 0 < natural parts.now }
     requires ends { IfNone stuck.now (natural never.now ≡ 0) }
-    ensures { IfOk result (λ text. (p : Program) (s : Meant) →
+    ensures { IfOk result (λ text. (p : Program) (s : Meant) → silent ≡ p.silent →
         IfSome stuck.now (λ choices. NeverEnds p s choices.items) →
         IsNeverText p s exact (natural parts.now) (natural never.now) text.items) }
 {
@@ -119,13 +148,14 @@ fn never_text(
                 return Err(ChainError::NotSolved);
             }
             let weight = part_text(alloc, never, parts, exact)?;
-            append_never(&mut text, &weight, choices)?;
+            append_never(&mut text, &weight, choices, silent)?;
             Ok(text)
         }
     }
 }
 
-/// Returns the lines of outcomes, the line of the runs that never end, and `DONE`.
+/// Returns the lines of outcomes, the line of the runs that never end, and `DONE`. Outputs are left
+/// out if `silent` is true.
 pub(crate) fn list_text(
     alloc: Global,
     parts: &Natural,
@@ -133,16 +163,17 @@ pub(crate) fn list_text(
     never: &Natural,
     stuck: &Option<Vec<bool>>,
     exact: bool,
+    silent: bool,
 ) -> Result<Vec<u8>, ChainError>
     requires some { 0 < natural parts.now }
     requires ends { IfNone stuck.now (natural never.now ≡ 0) }
-    ensures { IfOk result (λ text. (p : Program) (s : Meant) →
+    ensures { IfOk result (λ text. (p : Program) (s : Meant) → silent ≡ p.silent →
         IfSome stuck.now (λ choices. NeverEnds p s choices.items) →
         IsListText p s exact (natural parts.now) (natural never.now) (lines_of lines.now)
         text.items) }
 {
-    let mut text = lines_text(alloc, parts, lines, exact)?;
-    let last = never_text(alloc, parts, never, stuck, exact)?;
+    let mut text = lines_text(alloc, parts, lines, exact, silent)?;
+    let last = never_text(alloc, parts, never, stuck, exact, silent)?;
     text.extend_from_slice(&last)?;
     text.extend_from_slice(b"DONE\n")?;
     Ok(text)

@@ -2,15 +2,18 @@
 
 ghost use Rattle.std.specs.Prelude.{◌≡◌, ◌<◌, ℕ, List, Some, Ok, Err, slice_get, IfOk, IfSome, IfNone};
 ghost use Rattle.ick_code.specs.meaning.State.{State as Meant};
-ghost use Rattle.ick_backtrack.specs.Machine.{Program};
+ghost use Rattle.ick_outcomes.specs.Programs.{Program};
 ghost use Rattle.ick_numbers.specs.Values.{natural, naturals};
 ghost use Rattle.ick_chain.specs.Answers.{IsAnswer};
 ghost use Rattle.ick_chain.specs.Chains.{IsExact, all_steps, never as forever, passing};
 ghost use Rattle.ick_chain.specs.ExactListings.{AreLines, IsExactListing, IsTextOf};
+ghost use Rattle.ick_chain.specs.Fewest.{AreFewest};
 ghost use Rattle.ick_chain.specs.Limits.{Test};
 ghost use Rattle.ick_chain.specs.Lines.{lines_of};
 ghost use Rattle.ick_chain.specs.Places.{IsFull, state_or, states_in};
-ghost use Rattle.ick_chain.specs.Reached.{HasMoreStates, TakesMore};
+ghost use Rattle.ick_chain.specs.Kept.{KeepsMore};
+ghost use Rattle.ick_chain.specs.Progress.{OnlyShows};
+ghost use Rattle.ick_chain.specs.Reached.{HasMoreStates};
 ghost use Rattle.ick_chain.specs.Rows.{AreRows, rows_of};
 ghost use Rattle.ick_chain.specs.Shown.{AreShown, NeverEnds, choices_of};
 
@@ -19,9 +22,11 @@ use crate::chain::Node;
 use crate::counting::count_rows;
 use crate::endless::show_endless;
 use crate::errors::ChainError;
+use crate::firsts::check_firsts;
 use crate::line::{Line, make_lines, sort_lines};
 use crate::line_text::list_text;
 use crate::outcomes::{Outcomes, list_outcomes};
+use crate::progress::Progress;
 use crate::row::Row;
 use crate::total::total_text;
 use ick_numbers::Natural;
@@ -44,12 +49,13 @@ fn sorted_lines<'c, P: States<'c>>(
         slice_get (states_in (P.seen program.now) answer.now.chain.states.items) 0 ≡ Some s →
         IsExact (P.text program.now) s parts weight never steps →
         AreRows weight (rows_of rows.items) →
-        AreShown (P.text program.now) s (rows_of rows.items) (choices_of shown.now) →
+        AreFewest (P.text program.now) s (rows_of rows.items) (choices_of shown.now) →
         AreShown (P.text program.now) s (rows_of rows.items) (choices_of first.now) →
         AreLines (P.text program.now) s parts never (lines_of lines.items)) }
 {
     let counts = count_rows(alloc, program, answer, &rows)?;
     show_endless(alloc, program, answer, &rows, &counts)?;
+    check_firsts(alloc, program, answer, &rows, &counts, first)?;
     let mut lines = make_lines(alloc, rows, &counts, shown, first)?;
     sort_lines(&mut lines)?;
     Ok(lines)
@@ -65,11 +71,12 @@ fn text_of(
     stuck: &Option<Vec<bool>>,
     exact: bool,
     total: bool,
+    silent: bool,
 ) -> Result<Vec<u8>, ChainError>
     requires some { 0 < natural parts.now }
     requires ends { IfNone stuck.now (natural never.now ≡ 0) }
     ensures { IfOk result (λ text. (p : Program) (states : List Meant) (s : Meant) →
-        IsFull p states nodes.now → slice_get states 0 ≡ Some s →
+        silent ≡ p.silent → IsFull p states nodes.now → slice_get states 0 ≡ Some s →
         IfSome stuck.now (λ choices. NeverEnds p s choices.items) →
         IsTextOf p s exact total (natural parts.now) (natural never.now) (lines_of lines.now)
         text.items) }
@@ -77,7 +84,7 @@ fn text_of(
     if total {
         return total_text(alloc, nodes, lines, never);
     }
-    list_text(alloc, parts, lines, never, stuck, exact)
+    list_text(alloc, parts, lines, never, stuck, exact, silent)
 }
 
 /// Returns the listing of an answer that `weigh` returned for this program, as text.
@@ -118,13 +125,14 @@ fn answer_text<'c, P: States<'c>>(
         &stuck,
         exact,
         total,
+        program.is_silent(),
     )
 }
 
 /// Returns a text, or `NoMemory`, or `NotSolved` in place of each other refusal.
-fn unsearched(text: Result<Vec<u8>, ChainError>) -> Result<Vec<u8>, ChainError>
+pub(crate) fn unsearched(text: Result<Vec<u8>, ChainError>) -> Result<Vec<u8>, ChainError>
     ensures text { IfOk result (λ found. text ≡ Ok found) }
-    ensures many { result ≡ Err ChainError.TooManyStates → ⊥ }
+    ensures many { (steps : ℕ) → result ≡ Err (ChainError.TooManyStates steps) → ⊥ }
     ensures much { result ≡ Err ChainError.TooMuchKept → ⊥ }
 {
     match text {
@@ -136,14 +144,15 @@ fn unsearched(text: Result<Vec<u8>, ChainError>) -> Result<Vec<u8>, ChainError>
 
 /// Returns the listing of the outcomes of a program without a limit on steps, as text: a line
 /// `COUNT WEIGHT FIRST END OUTPUT` for each outcome, in the order of the choices, then a line for
-/// the runs that never end, if they weigh anything, and then `DONE`. COUNT is `*` if the runs are
-/// infinitely many. With `exact` each weight is whole. With `total` it returns one line with the
+/// the runs that never end, if they weigh anything, and then `DONE`. FIRST is the first run of the
+/// outcome in the order of the listing. If the runs are infinitely many, COUNT is `*`, and FIRST is
+/// the first of the runs with the fewest choices. With `exact` each weight is whole. With `total` it returns one line with the
 /// numbers of outcomes and runs, and with the mean number of steps if they are infinitely many and
-/// none never ends.
+/// none never ends. If the output of the program is left out, so is OUTPUT.
 ///
 /// The other arguments and the refusals are those of `weigh`. `NotSolved` also means that something
 /// that was found failed a check. No program is known that gets that.
-pub fn exact_listing<'c, P: States<'c>>(
+pub fn exact_listing<'c, P: States<'c>, E: Progress>(
     alloc: Global,
     program: &P,
     tools: &mut P::Tools,
@@ -153,18 +162,22 @@ pub fn exact_listing<'c, P: States<'c>>(
     memory: u64,
     exact: bool,
     total: bool,
+    progress: &mut E,
 ) -> Result<Vec<u8>, ChainError>
     requires tools { P.serves program.now tools.old }
     requires state { P.suits program.now state }
     requires stretch { stretch < 4294967295 }
     ensures text { IfOk result (λ text. IsExactListing (P.text program.now)
         (P.seen program.now state).state exact total text.items) }
-    ensures many { result ≡ Err ChainError.TooManyStates → HasMoreStates (P.text program.now)
-        (P.seen program.now state).state most }
-    ensures much { result ≡ Err ChainError.TooMuchKept → TakesMore (P.text program.now)
+    ensures many { (steps : ℕ) → result ≡ Err (ChainError.TooManyStates steps) →
+        HasMoreStates (P.text program.now) (P.seen program.now state).state most steps }
+    ensures much { result ≡ Err ChainError.TooMuchKept → KeepsMore (P.text program.now)
         (P.seen program.now) (P.suits program.now) (P.size program.now)
         (P.seen program.now state).state memory }
+    ensures shown { OnlyShows E.told E.failed E.written E.shows progress.old progress.new }
 {
-    let answer = weigh(alloc, program, tools, state, stretch, most, memory)?;
+    let answer = weigh(
+        alloc, program, tools, state, stretch, most, memory, progress,
+    )?;
     unsearched(answer_text(alloc, program, &answer, exact, total))
 }

@@ -2,7 +2,7 @@
 
 ghost use Rattle.std.specs.Prelude.{◌≡◌, ℕ, List, Some, slice_get, IfOk, IfSome};
 ghost use Rattle.ick_code.specs.meaning.State.{State as Meant};
-ghost use Rattle.ick_backtrack.specs.Machine.{Program};
+ghost use Rattle.ick_outcomes.specs.Programs.{Program};
 ghost use Rattle.ick_numbers.specs.Values.{natural};
 ghost use Rattle.ick_chain.specs.Means.{FitAll, IsFirst, IsMeanOf};
 ghost use Rattle.ick_chain.specs.Places.{IsFull};
@@ -59,7 +59,7 @@ fn all_means(alloc: Global, nodes: &[Node]) -> Result<Solution, ChainError>
     let mut order = Vec::new(alloc);
     let mut prime = prime_below(1_000_000_001);
     let mut goal: usize = 1;
-    let _ = visits_modulo(alloc, nodes, &mut order, prime)?;
+    let _ = visits_modulo(alloc, nodes, &mut order, prime, u64::MAX)?;
     'primes: for count in 1..MOST_PRIMES {
         let means = means_modulo(alloc, nodes, &order, prime)?;
         add_residues(&mut residues, means, prime)?;

@@ -1,6 +1,6 @@
 //! Rows of an exact answer, and how runs are added to them.
 
-ghost use Rattle.std.specs.Prelude.{◌≡◌, ◌+◌, ◌<◌, slice_index_or, length, true, false, OnOk};
+ghost use Rattle.std.specs.Prelude.{◌≡◌, ◌+◌, ◌<◌, ◌≤◌, slice_index_or, length, true, false, OnOk};
 ghost use Rattle.std.specs.Prelude.{IfSome, IfNone};
 ghost use Rattle.std.specs.List.{Contains};
 ghost use Rattle.ick_numbers.specs.Values.{natural};
@@ -28,7 +28,10 @@ pub struct Row {
 }
 
 /// Returns the lesser of two numbers.
-fn lesser(one: usize, other: usize) -> usize {
+fn lesser(one: usize, other: usize) -> usize
+    ensures one { result ≤ one }
+    ensures other { result ≤ other }
+{
     if one < other { one } else { other }
 }
 
@@ -38,6 +41,8 @@ pub(crate) fn add_weight(row: &mut Row, more: Row) -> Result<(), NoMemory>
     ensures same_end { row.new.end.items ≡ row.old.end.items }
     ensures sum { OnOk result (natural row.new.weight
         ≡ natural row.old.weight + natural more.weight) }
+    ensures rank { OnOk result (row.new.rank.breadth ≤ row.old.rank.breadth) }
+    ensures more { OnOk result (row.new.rank.breadth ≤ more.rank.breadth) }
 {
     let rank = Rank {
         breadth: lesser(row.rank.breadth, more.rank.breadth),

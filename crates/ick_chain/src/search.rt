@@ -1,19 +1,22 @@
 //! Finds all states of a program, and where they lead.
 
-ghost use Rattle.std.specs.Prelude.{◌≡◌, ◌+◌, ◌<◌, ◌≤◌, [], ◌∷◌, ◌++◌, length, Some, slice_get};
+ghost use Rattle.std.specs.Prelude.{◌≡◌, ◌+◌, ◌<◌, ◌≤◌, ℕ, [], ◌∷◌, ◌++◌, length, Some, slice_get};
 ghost use Rattle.std.specs.Prelude.{IfOk, OnOk, IfSome, IfNone, Err, slice_index_or};
-ghost use Rattle.ick_code.specs.meaning.Move.{ask, advance, plain, choice};
+ghost use Rattle.ick_code.specs.meaning.Move.{plain, choice};
+ghost use Rattle.ick_outcomes.specs.Programs.{ask, advance, IsPlain, RunsOn};
 ghost use Rattle.ick_code.specs.meaning.State.{State as Meant};
 ghost use Rattle.ick_backtrack.specs.Asked.{IsGoing, asked_of};
-ghost use Rattle.ick_backtrack.specs.Steps.{IsPlain, RunsOn};
 ghost use Rattle.ick_chain.specs.Places.{Reaches, Tells, AllTell, Extends, IsFull, states_in};
 ghost use Rattle.ick_chain.specs.Places.{AllSuit, state_or};
 ghost use Rattle.ick_chain.specs.Found.{IsFound, IsNew, IsReachedIn};
-ghost use Rattle.ick_chain.specs.Reached.{AreDifferent, AreReached, HasMoreStates, TakesMore};
+ghost use Rattle.ick_chain.specs.Progress.{OnlyShows};
+ghost use Rattle.ick_chain.specs.Reached.{AreDifferent, AreReached, HasMoreStates, LeadsTo, TakesMore};
+ghost use Rattle.ick_chain.specs.Reached.{fork_steps as steps_of_fork, steps_at as steps_of_node};
 
 use crate::chain::{Edge, Fork, Node};
 use crate::errors::ChainError;
 use crate::index::Index;
+use crate::progress::{Progress, show_states};
 use ick_backtrack::Ask;
 use ick_bits::NoMemory;
 use ick_outcomes::States;
@@ -21,7 +24,7 @@ use std::alloc::Global;
 
 /// What is counted for each state besides the state: its node, and its places in a list and in an
 /// index.
-const NODE_BYTES: u64 = 96;
+pub(crate) const NODE_BYTES: u64 = 96;
 
 /// The states that were found, each once, and an index that has the key of each of them.
 #[derive(Drop)]
@@ -136,6 +139,8 @@ fn place<'c, P: States<'c>>(
     ensures found { OnOk result (IsFound (P.text program.now) (P.seen program.now)
         (P.suits program.now) (P.key program.now) (P.size program.now) found.new) }
     ensures more { OnOk result (length found.old.states.items ≤ length found.new.states.items) }
+    ensures new { IfOk result (λ at. (i : ℕ) → length found.old.states.items ≤ i →
+        i < length found.new.states.items → at ≡ i) }
 {
     let key = program.hash(&state);
     match find_state(program, found, key, &state) {
@@ -169,7 +174,7 @@ fn step_from<'c, P: States<'c>>(
     requires tools { P.serves program.now tools.old }
     requires state { P.suits program.now state.now }
     requires going { IsGoing (ask (P.text program.now) (P.seen program.now state.now).state) }
-    ensures runs { IfOk result (λ p. RunsOn IsPlain (P.text program.now)
+    ensures runs { IfOk result (λ p. RunsOn (P.text program.now)
         (advance (P.text program.now) (P.seen program.now state.now).state done)
         p.1 (P.seen program.now p.0).state) }
     ensures within { IfOk result (λ p. p.1 ≤ stretch) }
@@ -206,6 +211,8 @@ fn follow<'c, P: States<'c>>(
     ensures found { OnOk result (IsFound (P.text program.now) (P.seen program.now)
         (P.suits program.now) (P.key program.now) (P.size program.now) found.new) }
     ensures more { OnOk result (length found.old.states.items ≤ length found.new.states.items) }
+    ensures new { IfOk result (λ edge. (i : ℕ) → length found.old.states.items ≤ i →
+        i < length found.new.states.items → edge.to ≡ i) }
     ensures tools { P.serves program.now tools.new }
 {
     let (state, made) = step_from(program, tools, &found.states[at], done, stretch)?;
@@ -251,6 +258,8 @@ fn pass<'c, P: States<'c>>(
     ensures found { OnOk result (IsFound (P.text program.now) (P.seen program.now)
         (P.suits program.now) (P.key program.now) (P.size program.now) found.new) }
     ensures more { OnOk result (length found.old.states.items ≤ length found.new.states.items) }
+    ensures new { IfOk result (λ node. (i : ℕ) → length found.old.states.items ≤ i →
+        i < length found.new.states.items → LeadsTo node i) }
     ensures tools { P.serves program.now tools.new }
 {
     let zero = follow(program, tools, found, at, false, stretch)?;
@@ -287,6 +296,8 @@ fn branch<'c, P: States<'c>>(
     ensures found { OnOk result (IsFound (P.text program.now) (P.seen program.now)
         (P.suits program.now) (P.key program.now) (P.size program.now) found.new) }
     ensures more { OnOk result (length found.old.states.items ≤ length found.new.states.items) }
+    ensures new { IfOk result (λ node. (i : ℕ) → length found.old.states.items ≤ i →
+        i < length found.new.states.items → LeadsTo node i) }
     ensures tools { P.serves program.now tools.new }
 {
     let zero = follow(program, tools, found, at, false, stretch)?;
@@ -316,6 +327,8 @@ fn expand<'c, P: States<'c>>(
     ensures found { OnOk result (IsFound (P.text program.now) (P.seen program.now)
         (P.suits program.now) (P.key program.now) (P.size program.now) found.new) }
     ensures more { OnOk result (length found.old.states.items ≤ length found.new.states.items) }
+    ensures new { IfOk result (λ node. (i : ℕ) → length found.old.states.items ≤ i →
+        i < length found.new.states.items → LeadsTo node i) }
     ensures tools { P.serves program.now tools.new }
 {
     match ask_at(program, &found.states, at) {
@@ -337,6 +350,7 @@ fn begin<'c, P: States<'c>>(
         ≡ Some (P.seen program.now state).state) }
     ensures found { IfOk result (IsFound (P.text program.now) (P.seen program.now)
         (P.suits program.now) (P.key program.now) (P.size program.now)) }
+    ensures one { IfOk result (λ found. (i : ℕ) → i < length found.states.items → 0 ≡ i) }
 {
     let mut found = Found {
         states: Vec::new(alloc),
@@ -358,15 +372,38 @@ fn add_node(nodes: &mut Vec<Node>, node: Node) -> Result<(), NoMemory>
     Ok(())
 }
 
-/// Returns why a search must stop, if it must: `most` states or `memory` bytes are passed.
-fn refusal<S: Drop>(found: &Found<S>, most: usize, memory: u64) -> Option<ChainError>
-    ensures states { result ≡ Some ChainError.TooManyStates →
-        most < length found.now.states.items }
+/// Returns the steps along the edges of a fork.
+fn fork_steps(fork: Fork) -> u64
+    ensures { result ≡ steps_of_fork fork }
+{
+    let zero = u64::from(fork.zero.steps);
+    if fork.chance == 0 {
+        return zero;
+    }
+    zero + u64::from(fork.one.steps)
+}
+
+/// Returns the steps along the edges of a node.
+fn steps_at(node: Node) -> u64
+    ensures { result ≡ steps_of_node node }
+{
+    match node {
+        Node::Ends => 0,
+        Node::Goes(fork) => fork_steps(fork),
+        Node::Stuck(fork) => fork_steps(fork),
+    }
+}
+
+/// Returns why a search that made so many steps must stop, if it must: `most` states or `memory`
+/// bytes are passed.
+fn refusal<S: Drop>(found: &Found<S>, steps: u64, most: usize, memory: u64) -> Option<ChainError>
+    ensures states { (n : ℕ) → result ≡ Some (ChainError.TooManyStates n) →
+        (n ≡ steps) × (most < length found.now.states.items) }
     ensures bytes { result ≡ Some ChainError.TooMuchKept → memory < found.now.bytes }
     ensures few { IfNone result (length found.now.states.items ≤ most) }
 {
     if found.states.len() > most {
-        return Some(ChainError::TooManyStates);
+        return Some(ChainError::TooManyStates(steps));
     }
     if found.bytes > memory {
         return Some(ChainError::TooMuchKept);
@@ -378,10 +415,11 @@ fn refusal<S: Drop>(found: &Found<S>, most: usize, memory: u64) -> Option<ChainE
 /// time. At most `most` states are kept, and at most `memory` bytes for them, as `bytes_of` counts
 /// them.
 ///
-/// `TooManyStates` is returned only if more than `most` different states can be reached, and
-/// `TooMuchKept` only if different states that can be reached take more than `memory` bytes.
-/// `NoMemory` is returned only if a growth was refused.
-pub fn explore<'c, P: States<'c>>(
+/// `TooManyStates` is returned only if more than `most` different states can be reached. It has the
+/// number of steps that found them, or 2^64 - 1 if the number is greater. `TooMuchKept` is returned
+/// only if different states that can be reached take more than `memory` bytes. `NoMemory` is
+/// returned only if a growth was refused. After every 100,000 states `progress` is told.
+pub fn explore<'c, P: States<'c>, E: Progress>(
     alloc: Global,
     program: &P,
     tools: &mut P::Tools,
@@ -389,6 +427,7 @@ pub fn explore<'c, P: States<'c>>(
     stretch: u32,
     most: usize,
     memory: u64,
+    progress: &mut E,
 ) -> Result<Chain<P::State>, ChainError>
     requires tools { P.serves program.now tools.old }
     requires state { P.suits program.now state }
@@ -403,14 +442,16 @@ pub fn explore<'c, P: States<'c>>(
         (states_in (P.seen program.now) chain.states.items)) }
     ensures reached { IfOk result (λ chain. AreReached (P.text program.now)
         (P.seen program.now state).state (states_in (P.seen program.now) chain.states.items)) }
-    ensures many { result ≡ Err ChainError.TooManyStates → HasMoreStates (P.text program.now)
-        (P.seen program.now state).state most }
+    ensures many { (steps : ℕ) → result ≡ Err (ChainError.TooManyStates steps) →
+        HasMoreStates (P.text program.now) (P.seen program.now state).state most steps }
     ensures much { result ≡ Err ChainError.TooMuchKept → TakesMore (P.text program.now)
         (P.seen program.now) (P.suits program.now) (P.size program.now)
         (P.seen program.now state).state memory }
+    ensures shown { OnlyShows E.told E.failed E.written E.shows progress.old progress.new }
 {
     let mut found = begin(alloc, program, state)?;
     let mut nodes = Vec::new(alloc);
+    let mut steps: u64 = 0;
     'nodes: for at in 0..most {
         if at >= found.states.len() {
             return Ok(Chain {
@@ -418,13 +459,15 @@ pub fn explore<'c, P: States<'c>>(
                 nodes,
             });
         }
-        if let Some(refused) = refusal(&found, most, memory) {
+        if let Some(refused) = refusal(&found, steps, most, memory) {
             return Err(refused);
         }
         let node = expand(program, tools, &mut found, at, stretch)?;
+        steps = steps.saturating_add(steps_at(node));
         add_node(&mut nodes, node)?;
+        show_states(progress, nodes.len());
     }
-    if let Some(refused) = refusal(&found, most, memory) {
+    if let Some(refused) = refusal(&found, steps, most, memory) {
         return Err(refused);
     }
     Ok(Chain {

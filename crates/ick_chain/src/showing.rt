@@ -4,11 +4,12 @@ ghost use Rattle.std.specs.Prelude.{◌≡◌, ℕ, [], ◌∷◌, ◌++◌, tru
 ghost use Rattle.std.specs.Prelude.{IfOk, IfSome, IfNone};
 ghost use Rattle.ick_code.specs.meaning.State.{State as Meant};
 ghost use Rattle.ick_backtrack.specs.Asked.{finish_of};
-ghost use Rattle.ick_backtrack.specs.Machine.{Program};
+ghost use Rattle.ick_outcomes.specs.Programs.{Program};
 ghost use Rattle.ick_explorer.specs.Lines.{end_text};
 ghost use Rattle.ick_numbers.specs.Values.{natural};
 ghost use Rattle.ick_chain.specs.Chains.{IsChain, IsClosed};
 ghost use Rattle.ick_chain.specs.Places.{AllSuit, IsFull, states_in};
+ghost use Rattle.ick_chain.specs.Ranks.{IsEnd};
 ghost use Rattle.ick_chain.specs.Rows.{rows_of};
 ghost use Rattle.ick_chain.specs.Shown.{AreShown, IsShown, NeverEnds, choices_of};
 
@@ -46,7 +47,7 @@ pub(crate) fn is_outcome<'c, P: States<'c>>(
 
 /// Returns true only if the run with these choices leads to a node and ends there with the outcome
 /// of a row.
-fn shows<'c, P: States<'c>>(
+pub(crate) fn shows<'c, P: States<'c>>(
     alloc: Global,
     program: &P,
     states: &[P::State],
@@ -58,9 +59,10 @@ fn shows<'c, P: States<'c>>(
     requires states { AllSuit (P.suits program.now) states.now }
     requires full { IsFull (P.text program.now) (states_in (P.seen program.now) states.now)
         nodes.now }
-    ensures { IfOk result (λ yes. yes ≡ true → (s : Meant) →
+    ensures shown { IfOk result (λ yes. yes ≡ true → (s : Meant) →
         slice_get (states_in (P.seen program.now) states.now) 0 ≡ Some s →
         IsShown (P.text program.now) s row.now.output.items row.now.end.items choices.now) }
+    ensures ended { IfOk result (λ yes. yes ≡ true → IsEnd row.now.end.items) }
 {
     if at >= states.len() || !leads(nodes, choices, at) {
         return Ok(false);
@@ -72,7 +74,7 @@ fn shows<'c, P: States<'c>>(
     }
 }
 
-/// Returns the choices of the run that is shown for a row.
+/// Returns the choices of the run of a row to the node with its rank.
 fn show_row<'c, P: States<'c>>(
     alloc: Global,
     program: &P,
@@ -88,7 +90,7 @@ fn show_row<'c, P: States<'c>>(
         slice_get (states_in (P.seen program.now) states.now) 0 ≡ Some s →
         IsShown (P.text program.now) s row.now.output.items row.now.end.items choices.items) }
 {
-    let at = ways.ranked(row.rank);
+    let at = ways.node(row.rank.depth);
     let choices = ways.choices(alloc, at)?;
     if shows(alloc, program, states, nodes, at, &choices, row)? {
         return Ok(choices);
@@ -97,14 +99,14 @@ fn show_row<'c, P: States<'c>>(
 }
 
 /// Appends choices.
-fn add_choices(shown: &mut Vec<Vec<bool>>, choices: Vec<bool>) -> Result<(), NoMemory>
+pub(crate) fn add_choices(shown: &mut Vec<Vec<bool>>, choices: Vec<bool>) -> Result<(), NoMemory>
     ensures { OnOk result (shown.new.items ≡ shown.old.items ++ choices ∷ []) }
 {
     shown.push(choices)?;
     Ok(())
 }
 
-/// Returns for each row the choices of the run that is shown for it.
+/// Returns for each row the choices of a run that has its outcome.
 pub(crate) fn show_rows<'c, P: States<'c>>(
     alloc: Global,
     program: &P,

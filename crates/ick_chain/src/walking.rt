@@ -2,7 +2,7 @@
 
 ghost use Rattle.std.specs.Prelude.{◌≡◌, ℕ, true, if◌then◌else◌, take, IfSome};
 ghost use Rattle.ick_code.specs.meaning.State.{State as Meant};
-ghost use Rattle.ick_backtrack.specs.Machine.{Program};
+ghost use Rattle.ick_outcomes.specs.Programs.{Program};
 ghost use Rattle.ick_chain.specs.Chains.{IsFork, IsNode};
 ghost use Rattle.ick_chain.specs.Shown.{LeadAlong, LeadToNode};
 

@@ -1,7 +1,11 @@
 //! Finds choices that lead to the nodes of a chain. Nothing rests on it, because what is found is
-//! followed again.
+//! followed and checked again.
+
+ghost use Rattle.std.specs.Prelude.{◌≡◌, [], ◌∷◌, ◌++◌, IfOk, OnOk};
+ghost use Rattle.ick_chain.specs.Ranks.{HaveNumbers};
 
 use crate::chain::Node;
+use crate::words::{Labels, Word, label_at};
 use ick_bits::NoMemory;
 use std::alloc::Global;
 
@@ -28,7 +32,7 @@ struct Next {
     way: Way,
 }
 
-/// With which number a node was found by breadth, and by depth.
+/// The number of a node's list of choices by breadth, and with which number it was found by depth.
 #[derive(Clone, Copy)]
 pub(crate) struct Rank {
     pub(crate) breadth: usize,
@@ -40,7 +44,6 @@ pub(crate) struct Rank {
 pub(crate) struct Ways {
     ways: Vec<Option<Way>>,
     order: Vec<usize>,
-    by_depth: bool,
 }
 
 /// Returns where a node leads that asks for no choice.
@@ -98,11 +101,10 @@ fn reach(
 }
 
 /// Returns ways to no node.
-fn no_ways(alloc: Global, nodes: &[Node], by_depth: bool) -> Result<Ways, NoMemory> {
+fn no_ways(alloc: Global, nodes: &[Node]) -> Result<Ways, NoMemory> {
     let mut ways = Ways {
         ways: Vec::new(alloc),
         order: Vec::new(alloc),
-        by_depth,
     };
     'nodes: for at in 0..nodes.len() {
         ways.ways.push(None)?;
@@ -149,7 +151,7 @@ fn visit(
 /// Finds all nodes from the first one by depth, and where 0 leads before where 1 does. If no way to
 /// a node has a cycle, the choices that lead to it are the first of all that do.
 pub(crate) fn find_first(alloc: Global, nodes: &[Node]) -> Result<Ways, NoMemory> {
-    let mut ways = no_ways(alloc, nodes, true)?;
+    let mut ways = no_ways(alloc, nodes)?;
     let mut stack = Vec::new(alloc);
     let step = Step::Start;
     stack.push(Next {
@@ -168,7 +170,7 @@ pub(crate) fn find_first(alloc: Global, nodes: &[Node]) -> Result<Ways, NoMemory
 /// Finds all nodes from the first one by breadth. The choices that lead to a node are the fewest,
 /// and the first of these.
 pub(crate) fn find_ways(alloc: Global, nodes: &[Node]) -> Result<Ways, NoMemory> {
-    let mut ways = no_ways(alloc, nodes, false)?;
+    let mut ways = no_ways(alloc, nodes)?;
     reach(&mut ways, nodes, 0, Step::Start, 0)?;
     'turns: for turn in 0..nodes.len() {
         if turn < ways.order.len() {
@@ -183,14 +185,6 @@ pub(crate) fn find_ways(alloc: Global, nodes: &[Node]) -> Result<Ways, NoMemory>
 }
 
 impl Ways {
-    /// Returns the node with a rank.
-    pub(crate) fn ranked(&self, rank: Rank) -> usize {
-        if self.by_depth {
-            return self.node(rank.depth);
-        }
-        self.node(rank.breadth)
-    }
-
     /// Returns the node that was found with this number.
     pub(crate) fn node(&self, rank: usize) -> usize {
         if rank < self.order.len() {
@@ -200,7 +194,7 @@ impl Ways {
     }
 
     /// Returns with which number each node was found.
-    fn numbers(&self, alloc: Global) -> Result<Vec<usize>, NoMemory> {
+    pub(crate) fn numbers(&self, alloc: Global) -> Result<Vec<usize>, NoMemory> {
         let mut numbers = Vec::new(alloc);
         'nodes: for at in 0..self.ways.len() {
             numbers.push(usize::MAX)?;
@@ -249,19 +243,95 @@ impl Ways {
     }
 }
 
+/// Returns labels with the empty list, and without labels of nodes.
+fn no_labels(alloc: Global, count: usize) -> Result<Labels, NoMemory> {
+    let mut labels = Labels {
+        words: Vec::new(alloc),
+        of: Vec::new(alloc),
+        ends: Vec::new(alloc),
+    };
+    'nodes: for at in 0..count {
+        labels.of.push(0)?;
+    }
+    add_word(&mut labels, 0, false)?;
+    Ok(labels)
+}
+
+/// Appends a list of choices: that of a node, and one more choice.
+fn add_word(labels: &mut Labels, from: usize, choice: bool) -> Result<usize, NoMemory> {
+    let number = labels.words.len();
+    let parent = if from < labels.of.len() {
+        labels.of[from]
+    } else {
+        0
+    };
+    labels.words.push(Word { parent, choice })?;
+    labels.ends.push(0)?;
+    Ok(number)
+}
+
+/// Labels a node that was found so.
+fn label(labels: &mut Labels, at: usize, way: Way) -> Result<(), NoMemory> {
+    let number = match way.step {
+        Step::Start => 0,
+        Step::Plain => {
+            if way.from < labels.of.len() {
+                labels.of[way.from]
+            } else {
+                0
+            }
+        }
+        Step::Zero => add_word(labels, way.from, false)?,
+        Step::One => add_word(labels, way.from, true)?,
+    };
+    if at < labels.of.len() && number < labels.ends.len() {
+        labels.of[at] = number;
+        labels.ends[number] = at;
+    }
+    Ok(())
+}
+
+/// Returns for each node the choices that lead to it on its way.
+pub(crate) fn labels(alloc: Global, ways: &Ways) -> Result<Labels, NoMemory> {
+    let mut labels = no_labels(alloc, ways.ways.len())?;
+    'order: for number in 0..ways.order.len() {
+        let at = ways.order[number];
+        if at < ways.ways.len() {
+            if let Some(way) = ways.ways[at] {
+                label(&mut labels, at, way)?;
+            }
+        }
+    }
+    Ok(labels)
+}
+
+/// Returns the number at an index, or another if there is none.
+fn number_or(numbers: &[usize], at: usize, other: usize) -> usize {
+    if at < numbers.len() {
+        return numbers[at];
+    }
+    other
+}
+
+/// Appends a rank.
+pub(crate) fn add_rank(ranks: &mut Vec<Rank>, rank: Rank) -> Result<(), NoMemory>
+    ensures { OnOk result (ranks.new.items ≡ ranks.old.items ++ rank ∷ []) }
+{
+    ranks.push(rank)?;
+    Ok(())
+}
+
 /// Returns the ranks of all nodes.
-pub(crate) fn ranks(alloc: Global, ways: &Ways, first: &Ways) -> Result<Vec<Rank>, NoMemory> {
-    let breadths = ways.numbers(alloc)?;
+#[tactic(auto, using(crate::proofs::Ranking::numbers_none))]
+pub(crate) fn ranks(alloc: Global, labels: &Labels, first: &Ways) -> Result<Vec<Rank>, NoMemory>
+    ensures { IfOk result (λ ranks. HaveNumbers labels.now.of.items ranks.items) }
+{
     let depths = first.numbers(alloc)?;
     let mut ranks = Vec::new(alloc);
-    'nodes: for at in 0..breadths.len() {
-        let breadth = breadths[at];
-        let depth = if at < depths.len() {
-            depths[at]
-        } else {
-            breadth
-        };
-        ranks.push(Rank { breadth, depth })?;
+    'nodes: for at in 0..labels.of.len() {
+        let breadth = label_at(&labels.of, at);
+        let depth = number_or(&depths, at, breadth);
+        add_rank(&mut ranks, Rank { breadth, depth })?;
     }
     Ok(ranks)
 }

@@ -7,5 +7,5 @@ mod runs;
 
 pub use check::answer_check;
 pub use list::answer_list;
-pub use run::{choices_in, ended};
+pub use run::{choices_in, job_end_of};
 pub use runs::{answer_runs, list_over};

@@ -5,14 +5,14 @@ ghost use Rattle.ick_cli.specs.Dispatch.{AnswersCode, AnswersSource, Performs};
 ghost use Rattle.ick_cli.specs.Job.{asked};
 ghost use Rattle.ick_job.specs.Serve.{counts};
 
-use crate::commands::{answer_check, answer_list, answer_runs, choices_in, ended, list_over};
+use crate::commands::{answer_check, answer_list, answer_runs, choices_in, job_end_of, list_over};
 use crate::plan::{Plan, Runs, plan_of};
 use crate::words::Job;
 use ick_bits::NoMemory;
 use ick_code::{Code, compile};
-use ick_job::{Files, JobEnd, read_file, read_front, refused};
-use ick_machine::Feed;
-use ick_runs::{ByteSink, ByteSource, Chooser, SourceFeed, run_fed};
+use ick_devices::{ByteSink, ByteSource, Feed, Files, SourceFeed};
+use ick_job::{JobEnd, read_file, read_front, refused};
+use ick_runs::{Chooser, run_fed};
 use ick_source::read_source;
 use std::alloc::Global;
 
@@ -118,11 +118,11 @@ fn answer_code<'r, R: ByteSource, W: ByteSink>(
     match runs {
         Runs::Given { choices, limit } => {
             let chooser = Chooser::Listed(choices_in(choices));
-            ended(alloc, run_fed(alloc, code, input, writer, *limit, chooser))
+            job_end_of(alloc, run_fed(alloc, code, input, writer, *limit, chooser))
         }
         Runs::Drawn { seed, limit } => {
             let chooser = Chooser::Seeded(*seed);
-            ended(alloc, run_fed(alloc, code, input, writer, *limit, chooser))
+            job_end_of(alloc, run_fed(alloc, code, input, writer, *limit, chooser))
         }
         Runs::Listed { from, count, limit } => {
             if input.is_empty {

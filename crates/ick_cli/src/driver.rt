@@ -6,8 +6,8 @@ ghost use Rattle.ick_job.specs.Program.{ServesArguments, files_by, stream};
 
 use crate::dispatch::perform;
 use crate::words::read_job;
-use ick_job::{Files, Status, answer_words, report};
-use ick_runs::{ByteSink, ByteSource};
+use ick_devices::{ByteSink, ByteSource, Files};
+use ick_job::{Status, answer_words, report};
 use std::alloc::Global;
 
 /// Does the job that the arguments ask for, and returns the exit status.

@@ -16,11 +16,7 @@ mod laws;
 mod plan;
 mod words;
 
-pub use commands::ended;
 pub use driver::serve;
-pub use ick_job::{
-    Files, JobEnd, LONGEST, MOST_CHOICES, Message, Notice, Status, WordsFault, answer_words,
-    choices_of, finish, read_file, read_front, read_input, read_named, refuse_words, refused,
-    report, send,
-};
+pub use ick_devices::Files;
+pub use ick_job::Status;
 pub use laws::one_answer;

@@ -3,7 +3,7 @@ use Rattle.std.proofs.Common.{◌≡◌, ℕ, ◌+◌, ◌<◌, List, [], ◌∷
 use Rattle.std.proofs.Common.{sym, ap, ◌∙◌, append_assoc, append-nil}
 use Rattle.ick_syntax.specs.declared.tree.Expr.{Expr}
 use Rattle.ick_syntax.specs.Tree.{tree_of, trees_in}
-use Rattle.ick_code.specs.declared.emit.Draft.{Draft}
+use Rattle.ick_code.specs.declared.emit.OpsDraft.{OpsDraft}
 use Rattle.ick_code.specs.Effects.{Slots}
 use Rattle.ick_code.specs.Operations.{ops_of_tree, ops_of_trees}
 use Rattle.ick_code.specs.Emitted.{Emits}
@@ -17,7 +17,7 @@ ops-more slots (x ∷ es) e =
     ∙ sym
     (append_assoc (ops_of_tree slots (tree_of x)) (ops_of_trees slots (trees_in es)) (ops_of_tree slots (tree_of e)))
 
-pub emitted_more : (slots : Slots) (old so_far new : Draft) (es : List Expr) (i : ℕ) (e : Expr) →
+pub emitted_more : (slots : Slots) (old so_far new : OpsDraft) (es : List Expr) (i : ℕ) (e : Expr) →
     Emits (ops_of_trees slots (trees_in (take i es))) old so_far →
     Emits (ops_of_tree slots (tree_of e)) so_far new →
     i < length es →

@@ -2,13 +2,13 @@
 use Rattle.std.specs.Prelude.{ℕ, false, ◌≡◌, ◌≤◌, List, ◌++◌, length, slice_range}
 use Rattle.ick_syntax.specs.declared.statements.Statement.{Statement}
 use Rattle.ick_code.specs.declared.op.Op.{Op}
-use Rattle.ick_code.specs.declared.emit.Draft.{Draft}
+use Rattle.ick_code.specs.declared.emit.OpsDraft.{OpsDraft}
 use Rattle.ick_code.specs.declared.code.CompiledStatement.{CompiledStatement}
 use Rattle.ick_code.specs.Effects.{Slots}
 use Rattle.ick_code.specs.Operations.{ops_of_body}
 
 -- these operations are appended, unless a growth was refused
-abbrev pub Emits : List Op → Draft → Draft → Type 0
+abbrev pub Emits : List Op → OpsDraft → OpsDraft → Type 0
 Emits ops old new = new.refused ≡ false → (old.refused ≡ false) × (new.ops.items ≡ old.ops.items ++ ops)
 
 -- the operations, a range of all, are those that the statement's body is compiled to

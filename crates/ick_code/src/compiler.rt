@@ -9,7 +9,7 @@ ghost use Rattle.ick_code.specs.Compiled.{IsCompiled};
 
 use crate::code::{Code, CompiledStatement};
 use crate::counts::most_operands;
-use crate::emit::{Draft, emit_body};
+use crate::emit::{OpsDraft, emit_body};
 use crate::labels::Labels;
 use crate::table::Table;
 use ick_bits::NoMemory;
@@ -26,7 +26,7 @@ pub fn compile<'a>(alloc: Global, program: &Program<'a>) -> Result<Code<'a>, NoM
     ensures { IfOk result (IsCompiled (trees_of program.now)) }
 {
     let table = Table::new(alloc, program.statements())?;
-    let mut draft = Draft {
+    let mut draft = OpsDraft {
         ops: Vec::new(alloc),
         refused: false,
     };
@@ -47,7 +47,7 @@ pub fn compile<'a>(alloc: Global, program: &Program<'a>) -> Result<Code<'a>, NoM
 /// the greatest number of operands.
 fn compile_all<'a>(
     alloc: Global,
-    draft: &mut Draft,
+    draft: &mut OpsDraft,
     compiled: &mut Vec<CompiledStatement<'a>>,
     kinds: &mut Vec<Kind>,
     table: &Table,

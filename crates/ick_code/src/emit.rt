@@ -23,12 +23,12 @@ use ick_syntax::{BinaryOp, Body, Element, Expr, Gerund, Item, Name, Place, Targe
 
 /// Operations that are being appended. After a growth is refused, none is appended.
 #[derive(Drop)]
-pub struct Draft {
+pub struct OpsDraft {
     pub ops: Vec<Op>,
     pub refused: bool,
 }
 
-impl Draft {
+impl OpsDraft {
     /// Appends one operation.
     fn push(&mut self, op: Op)
         ensures { Emits (op ∷ []) self.old self.new }
@@ -56,7 +56,7 @@ pub enum Switch {
 }
 
 /// Appends the operations of a body.
-pub fn emit_body(draft: &mut Draft, table: &Table, labels: &Labels, body: &Body)
+pub fn emit_body(draft: &mut OpsDraft, table: &Table, labels: &Labels, body: &Body)
     requires { is_body_kinded (body_tree_of body.now) ≡ true }
     ensures { Emits (ops_of_body (place_in labels.now) (table_slots table.now) body.now)
         draft.old draft.new }
@@ -95,7 +95,7 @@ pub fn emit_body(draft: &mut Draft, table: &Table, labels: &Labels, body: &Body)
 }
 
 /// Appends one operation for each name.
-fn emit_names(draft: &mut Draft, table: &Table, form: NameForm, names: &[Name])
+fn emit_names(draft: &mut OpsDraft, table: &Table, form: NameForm, names: &[Name])
     ensures { Emits (name_ops (table_slots table.now) (on_name_of form) names.now)
         draft.old draft.new }
 {
@@ -111,7 +111,7 @@ fn emit_names(draft: &mut Draft, table: &Table, form: NameForm, names: &[Name])
 }
 
 /// Appends one operation for each gerund.
-fn emit_gerunds(draft: &mut Draft, switch: Switch, gerunds: &[Gerund])
+fn emit_gerunds(draft: &mut OpsDraft, switch: Switch, gerunds: &[Gerund])
     ensures { Emits (gerund_ops (on_gerund_of switch) gerunds.now) draft.old draft.new }
 {
     for gerund in gerunds {
@@ -123,7 +123,7 @@ fn emit_gerunds(draft: &mut Draft, switch: Switch, gerunds: &[Gerund])
 }
 
 /// Appends the operations that read input for each place.
-fn emit_places(draft: &mut Draft, table: &Table, places: &[Place])
+fn emit_places(draft: &mut OpsDraft, table: &Table, places: &[Place])
     requires { list_all (λ place. is_item_kinded (place_tree place)) places.now ≡ true }
     ensures { Emits (flat_map (read_ops (table_slots table.now)) places.now)
         draft.old draft.new }
@@ -141,7 +141,7 @@ fn emit_places(draft: &mut Draft, table: &Table, places: &[Place])
 }
 
 /// Appends the operations that print each item.
-fn emit_items(draft: &mut Draft, table: &Table, items: &[Item])
+fn emit_items(draft: &mut OpsDraft, table: &Table, items: &[Item])
     requires { list_all (λ item. is_item_kinded (item_tree item)) items.now ≡ true }
     ensures { Emits (flat_map (print_ops (table_slots table.now)) items.now)
         draft.old draft.new }
@@ -161,7 +161,7 @@ fn emit_items(draft: &mut Draft, table: &Table, items: &[Item])
 }
 
 /// Appends the operations that store a value in a target.
-fn emit_store(draft: &mut Draft, table: &Table, target: &Target)
+fn emit_store(draft: &mut OpsDraft, table: &Table, target: &Target)
     requires { is_kinded (target_tree target.now) ≡ true }
     ensures { Emits (store_ops (table_slots table.now) target.now) draft.old draft.new }
 {
@@ -176,7 +176,7 @@ fn emit_store(draft: &mut Draft, table: &Table, target: &Target)
 
 /// Appends the operations of an element.
 #[cycle(expression)]
-fn emit_fetch(draft: &mut Draft, table: &Table, element: &Element)
+fn emit_fetch(draft: &mut OpsDraft, table: &Table, element: &Element)
     requires few { are_few (trees_in element.now.subs.items) ≡ true }
     requires kinded { are_kinded (trees_in element.now.subs.items) ≡ true }
     ensures { Emits (ops_at (table_slots table.now) (trees_in element.now.subs.items)
@@ -189,7 +189,7 @@ fn emit_fetch(draft: &mut Draft, table: &Table, element: &Element)
 
 /// Appends the operations of an expression.
 #[cycle(expression)]
-fn emit_expr(draft: &mut Draft, table: &Table, e: &Expr)
+fn emit_expr(draft: &mut OpsDraft, table: &Table, e: &Expr)
     requires { is_kinded (tree_of e.now) ≡ true }
     ensures { Emits (ops_of_tree (table_slots table.now) (tree_of e.now)) draft.old draft.new }
 {
@@ -218,7 +218,7 @@ fn emit_expr(draft: &mut Draft, table: &Table, e: &Expr)
 
 /// Appends the operations of expressions in their order, and returns the number of expressions.
 #[cycle(expression)]
-fn emit_exprs(draft: &mut Draft, table: &Table, list: &Vec<Expr>) -> u32
+fn emit_exprs(draft: &mut OpsDraft, table: &Table, list: &Vec<Expr>) -> u32
     requires few { are_few (trees_in list.now.items) ≡ true }
     requires kinded { are_kinded (trees_in list.now.items) ≡ true }
     ensures count { result ≡ count_in (trees_in list.now.items) }

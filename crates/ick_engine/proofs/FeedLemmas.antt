@@ -11,7 +11,7 @@ use Rattle.ick_code.specs.meaning.InputOutput.{with_input, with_number, first_li
 use Rattle.ick_runtime.specs.{Inputs.Input}
 use Rattle.ick_engine.specs.{declared.reader.Line.Line, Reads.{IsNext, IsByte, line_outcome, number_outcome}}
 use Rattle.ick_engine.specs.Feeds.{has_ended, input_after, MayBeLeft}
-use Rattle.ick_backtrack.specs.declared.feed_fault.FeedFault.{FeedFault}
+use Rattle.ick_devices.specs.declared.feed_fault.FeedFault.{FeedFault}
 
 -- a line without an end in it is the first line of itself, an end and more
 module _ (line rest : List ℕ) (one : first_line line ≡ line) where

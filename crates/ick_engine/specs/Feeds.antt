@@ -3,18 +3,7 @@ use Rattle.std.specs.Prelude.{ℕ, ◌≡◌, Bool, true, List, [], slice_range,
 use Rattle.std.proofs.Common.{false, refl, sym}
 use Rattle.std.proofs.lemmas.Bool.{false≢true}
 use Rattle.ick_runtime.specs.Inputs.{Input}
-use Rattle.ick_backtrack.specs.declared.feed_fault.FeedFault.{FeedFault}
-use Rattle.ick_backtrack.specs.declared.feed_fault.FeedFault.TheVariants.{NoMemory, Read}
-
--- how many reads of a feed have failed where this went wrong
-abbrev pub failed_reads : FeedFault → ℕ
-failed_reads NoMemory = 0
-failed_reads Read = 1
-
--- and in a call with this answer
-abbrev pub feed_failures : {T : Type 0} → Result T FeedFault → ℕ
-feed_failures (Ok value) = 0
-feed_failures (Err fault) = failed_reads fault
+use Rattle.ick_devices.specs.declared.feed_fault.FeedFault.{FeedFault}
 
 -- whether the last read found that no input is left
 abbrev pub has_ended : Result Bool FeedFault → Bool

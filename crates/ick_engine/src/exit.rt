@@ -39,7 +39,7 @@ pub enum Exit {
 
 /// Returns why the run stops if an instruction of input or output stops it.
 #[cold]
-pub fn stopped_by(halt: Halt, here: u32) -> Exit
+pub fn exit_of_halt(halt: Halt, here: u32) -> Exit
     ensures { result ≡ exit_of halt here }
 {
     match halt {

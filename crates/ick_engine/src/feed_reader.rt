@@ -2,12 +2,12 @@
 
 ghost use Rattle.std.specs.Prelude.{◌≡◌, ◌+◌, ◌-◌, ◌<◌, ◌^◌, ℕ, []};
 ghost use Rattle.std.specs.Prelude.{true, false, Ok, Err, IsOk, OnOk};
-ghost use Rattle.ick_engine.specs.Feeds.{MayBeLeft, feed_failures, has_ended, one_if, some_left};
+ghost use Rattle.ick_devices.specs.Feeds.{feed_failures};
+ghost use Rattle.ick_engine.specs.Feeds.{MayBeLeft, has_ended, one_if, some_left};
 
-use crate::feed::Feed;
 use crate::reader::{Line, Reader};
-use ick_backtrack::FeedFault;
 use ick_bits::{NoMemory, digits_value};
+use ick_devices::{Feed, FeedFault};
 
 /// Reads the input of a step from a feed. Once no input was left, or a read has failed, the feed
 /// isn't asked again. It is never asked unless the step meets a WRITE IN.

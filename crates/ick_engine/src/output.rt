@@ -6,11 +6,11 @@ ghost use Rattle.ick_runtime.specs.{Noting.NotesParts, View.parts_of};
 ghost use Rattle.ick_engine.specs.Text.{IsNumberPrinted, IsPrinted};
 
 use ick_bits::{FaultKind, NoMemory, append_numeral, tape_out};
-use ick_runtime::{Entry, Halt, Notes, Rest};
+use ick_runtime::{Entry, Halt, Notes, Parts};
 
 /// Prints a number (Revised Manual, 4.4.13). If memory runs out, nothing changes.
 #[inline(always)]
-pub fn print_number<N: Notes>(rest: &mut Rest, notes: &mut N, number: u32) -> Result<(), Halt>
+pub fn print_number<N: Notes>(rest: &mut Parts, notes: &mut N, number: u32) -> Result<(), Halt>
     requires room { 0 < N.room notes.old }
     ensures printed { IsNumberPrinted result number (parts_of rest.old) (parts_of rest.new) }
     ensures room { N.room notes.old ≤ N.room notes.new + 1 }
@@ -47,7 +47,7 @@ fn append_elements(output: &mut Vec<u8>, last: u8, elements: &Vec<u32>) -> Resul
 /// out, nothing changes.
 #[inline(never)]
 pub fn print_array<N: Notes>(
-    rest: &mut Rest,
+    rest: &mut Parts,
     notes: &mut N,
     slot: u32,
     longest: usize,

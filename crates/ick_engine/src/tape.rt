@@ -8,7 +8,7 @@ ghost use Rattle.ick_engine.specs.Text.{IsArrayRead};
 
 use crate::reader::Reader;
 use ick_bits::{FaultKind, NoMemory, tape_in};
-use ick_runtime::{ArrayChange, Entry, Halt, Notes, Rest};
+use ick_runtime::{ArrayChange, Entry, Halt, Notes, Parts};
 
 /// Goes on behind a byte, or stays at the end of the input. Returns the number that an element gets
 /// from it. `to` is the position of the next byte, and `last` the byte that was read last.
@@ -53,7 +53,7 @@ fn read_bytes<R: Reader>(
 }
 
 /// Notes the input and its tape, and makes room for a whole statement.
-fn note_reading<N: Notes>(rest: &Rest, notes: &mut N, longest: usize) -> Result<(), NoMemory>
+fn note_reading<N: Notes>(rest: &Parts, notes: &mut N, longest: usize) -> Result<(), NoMemory>
     requires room { 2 ≤ N.room notes.old }
     ensures room { OnOk result (longest + 79 ≤ N.room notes.new) }
     ensures notes { NotesBefore N.Undoes N.low N.fixed N.changes notes.old notes.new
@@ -70,7 +70,7 @@ fn note_reading<N: Notes>(rest: &Rest, notes: &mut N, longest: usize) -> Result<
 #[tactic(auto, using(crate::proofs::TapeIn::other_parts))]
 #[inline(never)]
 pub fn read_array<N: Notes, R: Reader>(
-    rest: &mut Rest,
+    rest: &mut Parts,
     notes: &mut N,
     reader: &mut R,
     slot: u32,

@@ -11,7 +11,7 @@ use Rattle.ick_explorer.specs.Listings.{IsLeastAfter, common, zeros_in}
 use Rattle.ick_explorer.specs.Paths.{Leads}
 use Rattle.ick_explorer.specs.Marked.{IsMarked}
 use Rattle.ick_explorer.specs.Standing.{Keeps, StandsAfter}
-use Rattle.ick_explorer.specs.declared.walk.Way.TheVariants.{Down}
+use Rattle.ick_explorer.specs.declared.walk.Way.TheVariants.{Zeros}
 use Rattle.ick_explorer.specs.Walks.{Walks, EndsHere, Goes, TurnsBack, Arrives, Finds}
 use Rattle.ick_explorer.proofs.RunLaws.{Leads-start, Leads-ends}
 use Rattle.ick_explorer.proofs.Orders.{least-first, least-turned, common-turned}
@@ -57,7 +57,7 @@ ok_so (Ok x) f p = f x p
 ok_so (Err e) f p = tt
 
 pub finds_first : (l : ℕ) (m m' : Machine) (c c' : List Bool) (points points' : List ℕ) (n : ℕ) (f : Finish) →
-    c ≡ [] → IsMarked l m c points → Goes Down l m c points 0 m' c' points' n → EndsHere l m' n f →
+    c ≡ [] → IsMarked l m c points → Goes Zeros l m c points 0 m' c' points' n → EndsHere l m' n f →
     Finds m.state l None m m' c' points' n f
 finds_first l m m' c c' points points' n f hc h down here =
     let p = m.program in
@@ -76,7 +76,7 @@ finds_first l m m' c c' points points' n f hc h down here =
 
 pub finds_next : (l : ℕ) (m m₁ m' : Machine) (c c₁ c' : List Bool) (points points₁ points' : List ℕ)
     (k n : ℕ) (f : Finish) → TurnsBack l m c points m₁ c₁ points₁ k →
-    Goes Down l m₁ c₁ points₁ k m' c' points' n → EndsHere l m' n f →
+    Goes Zeros l m₁ c₁ points₁ k m' c' points' n → EndsHere l m' n f →
     (s : State) → StandsAfter m.program s l c m.marks points → Finds s l (Some c) m m' c' points' n f
 finds_next l m m₁ m' c c₁ c' points points₁ points' k n f back down here s h =
     let p = m.program in

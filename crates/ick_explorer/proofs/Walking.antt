@@ -19,7 +19,7 @@ use Rattle.ick_explorer.specs.Paths.{Leads, AllOnes, AllZeros, TurnsAt}
 use Rattle.ick_explorer.specs.Marked.{is_choice, IsMarked}
 use Rattle.ick_explorer.specs.Standing.{Keeps, StandsAfter}
 use Rattle.ick_explorer.specs.declared.walk.Way.{Way}
-use Rattle.ick_explorer.specs.declared.walk.Way.TheVariants.{Down, Along}
+use Rattle.ick_explorer.specs.declared.walk.Way.TheVariants.{Zeros, Along}
 use Rattle.ick_explorer.specs.Walks.{Walks, IsChoosing, EndsHere, Moves, given_by, HasGiven, Goes, TurnsBack}
 use Rattle.ick_explorer.proofs.RunLaws.{Leads-on, Leads-choice, Leads-wants, Stops, wants-stops, use-wants, ends_finished}
 use Rattle.ick_explorer.proofs.Orders.{before_zeros-zero, before_zeros-one, before_zeros-turns}
@@ -193,7 +193,7 @@ all_zeros-append (true ∷ y) z u v = absurd u
 -- a way gives one more choice
 gave_more : (way : Way) (z : List Bool) (b : Bool) → HasGiven way z → given_by way (length z) ≡ Some b →
     HasGiven way (z ++ b ∷ [])
-gave_more Down z b gave given =
+gave_more Zeros z b gave given =
     let zero : false ≡ b = cc in
     subst (λ x. AllZeros (z ++ x ∷ [])) zero (all_zeros-append z (false ∷ []) gave tt)
 gave_more (Along choices) z b gave given =

@@ -1,6 +1,4 @@
 pub mod Errors
-pub mod Whole
-pub mod Written
 pub mod Runs
 pub mod Listings
 pub mod Order

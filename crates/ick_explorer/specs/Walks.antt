@@ -10,7 +10,7 @@ use Rattle.ick_explorer.specs.Listings.{IsLeastAfter}
 use Rattle.ick_explorer.specs.Paths.{Leads, AllZeros, TurnsAt}
 use Rattle.ick_explorer.specs.Marked.{is_choice, IsMarked}
 use Rattle.ick_explorer.specs.declared.walk.Way.{Way}
-use Rattle.ick_explorer.specs.declared.walk.Way.TheVariants.{Down, Along}
+use Rattle.ick_explorer.specs.declared.walk.Way.TheVariants.{Zeros, Along}
 use Rattle.ick_explorer.specs.Standing.{Explored, Keeps, Stands, StandsAfter, shared_from}
 
 -- the machine has made n steps of the run from s with these choices, and has the marks of their zeros
@@ -41,12 +41,12 @@ pub record Moves (limit : ℕ) (old : Machine) (c : List Bool) (points : List �
 
 -- the choice that a way gives after `used` choices, if it has one
 abbrev pub given_by : Way → ℕ → Option Bool
-given_by Down used = Some false
+given_by Zeros used = Some false
 given_by (Along choices) used = slice_get choices.now used
 
 -- a way has given these choices
 abbrev pub HasGiven : Way → List Bool → Type 0
-HasGiven Down taken = AllZeros taken
+HasGiven Zeros taken = AllZeros taken
 HasGiven (Along choices) taken = taken ≡ take (length taken) choices.now
 
 -- the machine moves by the choices that a way gives

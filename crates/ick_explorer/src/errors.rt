@@ -4,8 +4,8 @@ ghost use Rattle.std.specs.Prelude.{◌≡◌};
 ghost use Rattle.ick_explorer.specs.Errors.{error_of};
 ghost use Rattle.ick_explorer.specs.declared.errors.RunsError.TheVariants.{NoMemory as no_memory};
 
-use ick_backtrack::FeedFault;
 use ick_bits::NoMemory;
+use ick_devices::FeedFault;
 use std::alloc::{AllocError, AllocFailed};
 use thiserror::Error;
 

@@ -8,7 +8,6 @@ ghost use Rattle.ick_explorer.specs.Marked.{HasMarks, IsPlaced};
 
 use crate::choices::Choices;
 use crate::cursor::Cursor;
-use crate::devices::{ByteSink, write_whole};
 use crate::errors::RunsError;
 use crate::lines::LineBuilder;
 use crate::path::{Path, Progress};
@@ -16,6 +15,7 @@ use crate::run::Run;
 use crate::walk::{self, Way};
 use ick_backtrack::{Ask, Asks, Backtrack, End};
 use ick_bits::NoMemory;
+use ick_devices::{ByteSink, write_whole};
 use std::alloc::Global;
 
 /// Lists the runs of a machine's program from the machine's state. Each run is listed once, in the

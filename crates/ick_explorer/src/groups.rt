@@ -12,7 +12,7 @@ use crate::errors::RunsError;
 use std::alloc::Global;
 
 /// Caps the numbers that are read. The cap is above every limit on steps.
-const CAP: u64 = 4_294_967_296;
+const LENGTH_CAP: u64 = 4_294_967_296;
 
 /// Describes the group at the front of a text. `choice` is its choice, `size` is the length of its
 /// stretch up to the cap, and `count` is the number of digits of that length.
@@ -40,7 +40,7 @@ fn read_digits(text: &[u8]) -> Digits
     let mut value = 0;
     let mut count = 0;
     while count < text.len() && text[count].is_ascii_digit() {
-        value = (value * 10 + u64::from(text[count] - b'0')).min(CAP);
+        value = (value * 10 + u64::from(text[count] - b'0')).min(LENGTH_CAP);
         count += 1;
     }
     Digits { count, value }
@@ -92,7 +92,7 @@ pub(crate) fn measure(text: &[u8]) -> Option<u64>
         let Some(front) = read_front(&text[at..], last) else {
             return None;
         };
-        total = (total + front.size).min(CAP);
+        total = (total + front.size).min(LENGTH_CAP);
         at += front.count + 2;
         if at == text.len() {
             return Some(total);

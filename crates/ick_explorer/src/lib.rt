@@ -3,7 +3,6 @@
 //!
 //! | Module | Contents |
 //! |---|---|
-//! | `devices` | sources and sinks of bytes |
 //! | `errors` | the refusals of calls |
 //! | `choice_texts` | the printing of lists of choices |
 //! | `stretches`, `choices` | a list of choices that keeps what its text is made of |
@@ -19,7 +18,6 @@
 mod choice_texts;
 mod choices;
 mod cursor;
-mod devices;
 mod errors;
 mod explorer;
 mod groups;
@@ -35,10 +33,6 @@ mod writing;
 
 pub use choice_texts::append_choices;
 pub use cursor::Cursor;
-pub use devices::{
-    ByteSink, ByteSource, DeviceFault, ReadFault, SliceSource, VecSink, line_length, read_first,
-    write_whole,
-};
 pub use errors::RunsError;
 pub use explorer::Explorer;
 pub use laws::{one_listing, one_order, one_reading, runs_are_limited};

@@ -48,7 +48,7 @@ fn choose<M: Backtrack>(
 #[derive(Clone, Copy)]
 pub(crate) enum Way<'a> {
     /// By a zero at each choice.
-    Down,
+    Zeros,
     /// By these choices.
     Along(&'a [bool]),
 }
@@ -60,7 +60,7 @@ impl<'a> Way<'a> {
         ensures { result ≡ given_by self.entry used }
     {
         match self {
-            Way::Down => Some(false),
+            Way::Zeros => Some(false),
             Way::Along(choices) => choices.get(used).copied(),
         }
     }
@@ -172,7 +172,7 @@ pub(crate) fn find<'c, M: Asks<'c>>(
         }
         Progress::Spent => unreachable!(),
     };
-    match lead(machine, path, limit, start, Way::Down) {
+    match lead(machine, path, limit, start, Way::Zeros) {
         Ok(Some(steps)) => Ok(steps),
         Ok(None) => unreachable!(),
         Err(NoMemory) => Err(NoMemory),

@@ -9,12 +9,12 @@ ghost use Rattle.ick_explorer.specs.Explorers.{explored};
 ghost use Rattle.ick_explorer.specs.Lines.{last_line};
 ghost use Rattle.ick_explorer.specs.Writes.{Writes, write_failures};
 
-use crate::devices::{ByteSink, write_whole};
 use crate::errors::RunsError;
 use crate::explorer::Explorer;
 use crate::lines::LineBuilder;
 use crate::listing::Listed2;
 use ick_backtrack::Asks;
+use ick_devices::{ByteSink, write_whole};
 use std::alloc::Global;
 
 /// Writes the last line of a listing. Returns `listed`. The answer is `Write` if the writer fails,

@@ -8,7 +8,7 @@ use Rattle.std.proofs.lemmas.Bool.{cases_lt}
 use Rattle.std.proofs.lemmas.List.{drop_all, append-nil, length-append, take_more, reverse-append, length-reverse}
 use Rattle.std.proofs.lemmas.List.{length-take}
 use Rattle.std.proofs.lemmas.List.Sums.{count_by-le-length, count_by_more_yes, count_by_more_no, take_while-cons}
-use Rattle.ick_inspect.specs.declared.positions.Position.{Position}
+use Rattle.ick_inspect.specs.declared.positions.LineColumn.{LineColumn}
 use Rattle.ick_bits.specs.White.{is_white_byte}
 use Rattle.ick_syntax.specs.StatementTree.{StatementTree}
 use Rattle.ick_code.specs.meaning.State.{statement_at}
@@ -23,7 +23,7 @@ back_more : (source : List ℕ) (at : ℕ) → at < length source →
 back_more source at h =
     ap reverse (take_more source at 0 h) ∙ reverse-append (take at source) (get_or source at 0 ∷ [])
 
-abbrev made : ℕ → ℕ → Position
+abbrev made : ℕ → ℕ → LineColumn
 made line column = record { line = line; column = column }
 
 alike : {l m c d : ℕ} → l ≡ m → c ≡ d → made l c ≡ made m d
@@ -109,7 +109,7 @@ white_end source from a b la lb wa wb sa inb sb = cases (cases_lt a b) (cases_lt
     cases (inr ge) (inr le) = omega arith
 
 -- the positions that were found are those of the first texts, and the others begin from here on
-pub record Goes (source : List ℕ) (texts : List (List ℕ)) (k at : ℕ) (found : List Position) : Type 0 where
+pub record Goes (source : List ℕ) (texts : List (List ℕ)) (k at : ℕ) (found : List LineColumn) : Type 0 where
   pub count : length found ≡ k
   pub others : (starts : List ℕ) → AreAt source 0 texts starts →
       (left : List ℕ) × AreAt source at (drop k texts) left
@@ -125,7 +125,7 @@ pub record EndsWhite (source : List ℕ) (from to : ℕ) : Type 0 where
   pub white : (k : ℕ) → from ≤ k → k < to → is_white_byte (slice_index source k) ≡ true
   pub solid : to < length source → is_white_byte (slice_index source to) ≡ false
 
-pub goes_more : (source : List ℕ) (texts : List (List ℕ)) (k at start end : ℕ) (found : List Position) (text : List ℕ) →
+pub goes_more : (source : List ℕ) (texts : List (List ℕ)) (k at start end : ℕ) (found : List LineColumn) (text : List ℕ) →
     Goes source texts k at found → drop k texts ≡ text ∷ drop (k + 1) texts → EndsWhite source at start →
     (start + length text ≤ length source → end ≡ start + length text) →
     Goes source texts (k + 1) end (found ++ position_in source start ∷ [])
@@ -134,7 +134,7 @@ goes_more source texts k at start end found text goes next white stops = record 
   others = λ starts are. step starts (goes.others starts are);
 }
   where
-    P : ℕ → Position
+    P : ℕ → LineColumn
     P = position_in source
 
     more : (starts left : List ℕ) → map P starts ≡ found ++ map P left → (at' : ℕ) (rest : List ℕ) →
@@ -172,7 +172,7 @@ goes_more source texts k at start end found text goes next white stops = record 
 no_start : {source : List ℕ} {from : ℕ} {starts : List ℕ} → AreAt source from [] starts → starts ≡ []
 no_start no_text = refl
 
-pub goes_last : (source : List ℕ) (texts : List (List ℕ)) (k at : ℕ) (found : List Position) → k ≡ length texts →
+pub goes_last : (source : List ℕ) (texts : List (List ℕ)) (k at : ℕ) (found : List LineColumn) → k ≡ length texts →
     Goes source texts k at found → (starts : List ℕ) → AreAt source 0 texts starts →
     found ≡ map (position_in source) starts
 goes_last source texts k at found all goes starts are = cases (goes.others starts are)

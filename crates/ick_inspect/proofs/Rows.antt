@@ -10,7 +10,7 @@ use Rattle.ick_syntax.specs.StatementTree.{StatementTree}
 use Rattle.ick_syntax.specs.BodyTree.{give_up}
 use Rattle.ick_code.specs.meaning.State.{State, gave_up, no_array}
 use Rattle.ick_code.proofs.RowWords.{plainly}
-use Rattle.ick_inspect.specs.declared.positions.Position.{Position}
+use Rattle.ick_inspect.specs.declared.positions.LineColumn.{LineColumn}
 use Rattle.ick_inspect.specs.Text.{numbers_text}
 use Rattle.ick_inspect.specs.Names.{array_text, dimensions_text, elements_text, marks_text, name_text, variable_text}
 use Rattle.ick_inspect.specs.Summary.{abstained_text, counts_text, end_text, stack_text, state_text, statements_text}
@@ -87,7 +87,7 @@ begins_later : position_in (codes "PLEASE\nGIVE UP\n\n DO GIVE UP") 17 ≡ recor
 unfolding position_in
 begins_later = refl
 
-places : List Position
+places : List LineColumn
 places = record { line = 1; column = 1 } ∷ record { line = 4; column = 2 } ∷ []
 
 around : list_text two places 2 5 ≡ codes "  1 1:1 \"PLEASE\\nGIVE UP\"\n> 2 4:2 \"DO GIVE UP\"\n"

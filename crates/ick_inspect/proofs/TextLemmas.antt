@@ -15,7 +15,7 @@ use Rattle.std.proofs.lemmas.List.{append-nil, take_more, take_all, length-rever
 use Rattle.ick_inspect.proofs.AddLaws.{pieces_more, range_more}
 use Rattle.ick_inspect.specs.Text.{numbers_text}
 use Rattle.ick_inspect.specs.Names.{array_text, dimensions_text, elements_text, variable_text}
-use Rattle.ick_inspect.specs.declared.positions.Position.{Position}
+use Rattle.ick_inspect.specs.declared.positions.LineColumn.{LineColumn}
 use Rattle.ick_code.specs.Names.{slots_of}
 use Rattle.ick_inspect.specs.Summary.{abstained_text, counts_text, end_text, stack_text, state_text, statements_text}
 use Rattle.ick_inspect.specs.Summary.{variables_text}
@@ -154,7 +154,7 @@ list_more line first n low =
     ∙ (pieces_more line (range_with_len first (n - first)) (first + (n - first))
     ∙ ap (λ k. flat_map line (range_with_len first (n - first)) ++ line k) at))
 
-pub list_is : (program : List StatementTree) (positions : List Position) (place around first count : ℕ) →
+pub list_is : (program : List StatementTree) (positions : List LineColumn) (place around first count : ℕ) →
     first ≡ max 1 (place - around) → count ≡ min (length program) (place + around) + 1 - first →
     flat_map (listed_text program positions place) (range_with_len first count)
     ≡ list_text program positions place around

@@ -6,21 +6,21 @@ use Rattle.std.specs.List.{count_by, take_while}
 use Rattle.ick_bits.specs.White.{is_white_byte}
 use Rattle.ick_syntax.specs.StatementTree.{StatementTree}
 use Rattle.ick_source.specs.Cut.{IsCut}
-use Rattle.ick_inspect.specs.declared.positions.Position.{Position}
+use Rattle.ick_inspect.specs.declared.positions.LineColumn.{LineColumn}
 
 abbrev pub ends_line : ℕ → Bool
 ends_line b = b == 10
 
 -- the line is one more than the ends of lines before the position; the column is one more than the bytes since the
 -- last of them
-unfoldable pub position_in : (source : List ℕ) → (at : ℕ) → Position
+unfoldable pub position_in : (source : List ℕ) → (at : ℕ) → LineColumn
 position_in source at = record {
   line = suc (count_by ends_line (take at source));
   column = suc (length (take_while (λ b. not (ends_line b)) (reverse (take at source))));
 }
 
 -- the position behind a byte
-unfoldable pub position_behind : Position → ℕ → Position
+unfoldable pub position_behind : LineColumn → ℕ → LineColumn
 position_behind position b =
     if ends_line b then record { line = position.line + 1; column = 1 }
     else record { line = position.line; column = position.column + 1 }

@@ -19,10 +19,10 @@ mod statements;
 mod summary;
 mod text;
 
-pub use ick_machine::Present;
+pub use ick_machine::StateView;
 pub use laws::one_start;
 pub use names::{append_name, append_variable};
-pub use positions::{Position, positions_of};
+pub use positions::{LineColumn, moved, positions_of};
 pub use readers::{
     dimensions, elements, input_left, is_abstained_from, is_ignored, last, lastin, number, output,
     place, return_addresses, stashed_arrays, stashed_numbers,

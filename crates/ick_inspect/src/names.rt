@@ -5,11 +5,11 @@ ghost use Rattle.ick_code.specs.meaning.State.{State};
 ghost use Rattle.ick_inspect.specs.Names.{array_text, dimensions_text, marks_text, name_text};
 ghost use Rattle.ick_inspect.specs.Names.{sigil, stash_depth, value_text, variable_text};
 ghost use Rattle.ick_inspect.specs.Text.{Adds};
-ghost use Rattle.ick_machine.specs.Present.{present_state};
+ghost use Rattle.ick_machine.specs.StateView.{present_state};
 
 use crate::readers;
 use crate::text::Text;
-use ick_machine::Present;
+use ick_machine::StateView;
 use ick_syntax::{Name, NameKind};
 
 /// Returns the sigil of a kind of names.
@@ -47,7 +47,7 @@ fn append_dimensions(text: &mut Text, dimensions: &[u32])
 }
 
 /// Appends an array.
-fn append_array(text: &mut Text, present: &Present<'_, '_, '_>, name: Name)
+fn append_array(text: &mut Text, present: &StateView<'_, '_, '_>, name: Name)
     ensures { Adds text.old text.new (array_text ((present_state present.now).arrays name)) }
 {
     let dimensions = readers::dimensions(present, name);
@@ -59,7 +59,7 @@ fn append_array(text: &mut Text, present: &Present<'_, '_, '_>, name: Name)
 }
 
 /// Appends the number of a variable, or an array.
-fn append_value(text: &mut Text, present: &Present<'_, '_, '_>, name: Name)
+fn append_value(text: &mut Text, present: &StateView<'_, '_, '_>, name: Name)
     ensures { Adds text.old text.new (value_text (present_state present.now) name) }
 {
     if readers::names_array(name) {
@@ -70,7 +70,7 @@ fn append_value(text: &mut Text, present: &Present<'_, '_, '_>, name: Name)
 }
 
 /// Returns how many values are stashed of a name.
-fn stashed(present: &Present<'_, '_, '_>, name: Name) -> usize
+fn stashed(present: &StateView<'_, '_, '_>, name: Name) -> usize
     ensures { result ≡ stash_depth (present_state present.now) name }
 {
     if readers::names_array(name) {
@@ -105,7 +105,7 @@ fn append_marks(text: &mut Text, ignored: bool, depth: usize)
 /// that has no dimensions yet is `,1 = no dimensions`. If the name is ignored or stashed, that
 /// follows: `.1 = 7 (ignored, 2 stashed)`. No end of line is appended.
 #[tactic(auto, unfolding(crate::specs::Names::variable_text))]
-pub fn append_variable(text: &mut Text, present: &Present<'_, '_, '_>, name: Name)
+pub fn append_variable(text: &mut Text, present: &StateView<'_, '_, '_>, name: Name)
     ensures { Adds text.old text.new (variable_text (present_state present.now) name) }
 {
     append_name(text, name);

@@ -13,32 +13,32 @@ use std::alloc::Global;
 
 /// A line and a column of a source, each counted from 1. A column counts bytes.
 #[derive(Clone, Copy, Debug)]
-pub struct Position {
+pub struct LineColumn {
     pub line: usize,
     pub column: usize,
 }
 
 /// Returns the position behind a byte.
 #[tactic(auto, unfolding(crate::specs::Positions::position_behind))]
-fn behind(position: Position, byte: u8) -> Position
+fn behind(position: LineColumn, byte: u8) -> LineColumn
     requires line { position.line < 2 ^ 63 }
     requires column { position.column < 2 ^ 63 }
     ensures { result ≡ position_behind position byte }
 {
     if byte == b'\n' {
-        return Position {
+        return LineColumn {
             line: position.line + 1,
             column: 1,
         };
     }
-    Position {
+    LineColumn {
         line: position.line,
         column: position.column + 1,
     }
 }
 
 /// Returns the position of the byte at `to`, from that of an earlier byte.
-fn moved(source: &[u8], from: usize, to: usize, position: Position) -> Position
+pub fn moved(source: &[u8], from: usize, to: usize, position: LineColumn) -> LineColumn
     requires order { from ≤ to }
     requires within { to ≤ length source.now }
     requires position { position ≡ position_in source.now from }
@@ -77,7 +77,7 @@ pub fn positions_of(
     alloc: Global,
     source: &[u8],
     code: &Code<'_>,
-) -> Result<Vec<Position>, NoMemory>
+) -> Result<Vec<LineColumn>, NoMemory>
     ensures count { IfOk result (λ found. length found.items ≡ length (code_program code.now)) }
     ensures at { IfOk result (λ found. (starts : List ℕ) →
         AreAt source.now 0 (texts_of (code_program code.now)) starts →
@@ -85,7 +85,7 @@ pub fn positions_of(
 {
     let mut found = Vec::with_capacity(alloc, code.count() as usize)?;
     let mut at = 0;
-    let mut position = Position { line: 1, column: 1 };
+    let mut position = LineColumn { line: 1, column: 1 };
     for index in 0..code.count() {
         let start = after_white(source, at);
         position = moved(source, at, start, position);

@@ -1,7 +1,7 @@
 //! Readers of a state. Each returns a part of the present state of a machine, and changes nothing.
 //! A name that the program doesn't have is that of a variable that is 0, or of an array that has no
 //! dimensions; nothing is stashed of it, and it isn't ignored.
-#![tactic(auto, unfolding(ick_machine::specs::Present::present_state, ick_machine::specs::Present::present_program), using(crate::proofs::ReaderLemmas::by_slots))]
+#![tactic(auto, unfolding(ick_machine::specs::StateView::present_state, ick_machine::specs::StateView::present_program), using(crate::proofs::ReaderLemmas::by_slots))]
 
 ghost use Rattle.std.specs.Prelude.{◌≡◌, ◌≢◌, ◌≤◌, ℕ, drop, length, map, reverse, slice_get};
 ghost use Rattle.std.specs.Prelude.{MatchOption, Some};
@@ -9,11 +9,11 @@ ghost use Rattle.ick_syntax.specs.NameKinds.{is_array};
 ghost use Rattle.ick_code.specs.meaning.State.{same_name};
 ghost use Rattle.ick_runtime.specs.Steady.{IsProgram};
 ghost use Rattle.ick_runtime.specs.View.{array_names, array_of, scalar_names};
-ghost use Rattle.ick_machine.specs.Present.{present_program, present_state};
+ghost use Rattle.ick_machine.specs.StateView.{present_program, present_state};
 ghost use Rattle.ick_machine.specs.RunIn.{CanGoOn};
 
 use ick_code::Code;
-use ick_machine::Present;
+use ick_machine::StateView;
 use ick_runtime::Array;
 use ick_syntax::{Name, NameKind};
 
@@ -61,7 +61,7 @@ fn array_slot(code: &Code<'_>, name: Name) -> Option<u32>
 
 /// States that the memory can be read, that each slot is in it, and that no two slots have one
 /// name.
-fn law(present: &Present<'_, '_, '_>)
+fn law(present: &StateView<'_, '_, '_>)
     ensures ready { CanGoOn present.now.lowered.now present.now.memory.now }
     ensures program { IsProgram present.now.lowered.now.code.now present.now.lowered.now.parts }
 {
@@ -72,22 +72,22 @@ fn law(present: &Present<'_, '_, '_>)
 
 /// Returns the program counter: the number of the statement that is met next, or one more than the
 /// program has.
-pub fn place(present: &Present<'_, '_, '_>) -> u32
+pub fn place(present: &StateView<'_, '_, '_>) -> u32
     ensures { (present_state present.now).place ≡ result }
 {
-    present.memory.cursor.place
+    present.memory.point.place
 }
 
 /// Returns the return addresses, the newest last.
-pub fn return_addresses<'m>(present: &Present<'m, '_, '_>) -> &'m [u32]
+pub fn return_addresses<'m>(present: &StateView<'m, '_, '_>) -> &'m [u32]
     ensures { (present_state present.now).returns ≡ reverse result.now }
 {
     present.law();
-    &present.memory.returns[..present.memory.cursor.depth]
+    &present.memory.returns[..present.memory.point.depth]
 }
 
 /// Returns the number of a variable.
-pub fn number(present: &Present<'_, '_, '_>, name: Name) -> u32
+pub fn number(present: &StateView<'_, '_, '_>, name: Name) -> u32
     ensures { (present_state present.now).scalars name ≡ result }
 {
     law(present);
@@ -98,7 +98,7 @@ pub fn number(present: &Present<'_, '_, '_>, name: Name) -> u32
 }
 
 /// Returns the dimensions of an array, none if it has none yet.
-pub fn dimensions<'m>(present: &Present<'m, '_, '_>, name: Name) -> &'m [u32]
+pub fn dimensions<'m>(present: &StateView<'m, '_, '_>, name: Name) -> &'m [u32]
     ensures { ((present_state present.now).arrays name).dimensions ≡ result.now }
 {
     law(present);
@@ -109,7 +109,7 @@ pub fn dimensions<'m>(present: &Present<'m, '_, '_>, name: Name) -> &'m [u32]
 }
 
 /// Returns the numbers of all elements of an array, row by row.
-pub fn elements<'m>(present: &Present<'m, '_, '_>, name: Name) -> &'m [u32]
+pub fn elements<'m>(present: &StateView<'m, '_, '_>, name: Name) -> &'m [u32]
     ensures { ((present_state present.now).arrays name).elements ≡ result.now }
 {
     law(present);
@@ -120,7 +120,7 @@ pub fn elements<'m>(present: &Present<'m, '_, '_>, name: Name) -> &'m [u32]
 }
 
 /// Returns whether a variable or an array is ignored.
-pub fn is_ignored(present: &Present<'_, '_, '_>, name: Name) -> bool
+pub fn is_ignored(present: &StateView<'_, '_, '_>, name: Name) -> bool
     ensures { (present_state present.now).ignored name ≡ result }
 {
     law(present);
@@ -132,13 +132,13 @@ pub fn is_ignored(present: &Present<'_, '_, '_>, name: Name) -> bool
         };
     }
     match scalar_slot(present.lowered.code, name) {
-        Some(slot) => memory.home[slot as usize] as usize == memory.registers.len() - 1,
+        Some(slot) => memory.store_target[slot as usize] as usize == memory.registers.len() - 1,
         None => false,
     }
 }
 
 /// Returns the numbers on the stash of a variable, the newest last.
-pub fn stashed_numbers<'m>(present: &Present<'m, '_, '_>, name: Name) -> &'m [u32]
+pub fn stashed_numbers<'m>(present: &StateView<'m, '_, '_>, name: Name) -> &'m [u32]
     ensures { (present_state present.now).stashed_scalars name ≡ reverse result.now }
 {
     law(present);
@@ -152,7 +152,7 @@ pub fn stashed_numbers<'m>(present: &Present<'m, '_, '_>, name: Name) -> &'m [u3
 }
 
 /// Returns the arrays on the stash of an array, the newest last.
-pub fn stashed_arrays<'m>(present: &Present<'m, '_, '_>, name: Name) -> &'m [Array]
+pub fn stashed_arrays<'m>(present: &StateView<'m, '_, '_>, name: Name) -> &'m [Array]
     ensures { (present_state present.now).stashed_arrays name
         ≡ reverse (map array_of result.now) }
 {
@@ -167,7 +167,7 @@ pub fn stashed_arrays<'m>(present: &Present<'m, '_, '_>, name: Name) -> &'m [Arr
 }
 
 /// Returns whether a statement is abstained from. Its number is at most that of the last statement.
-pub fn is_abstained_from(present: &Present<'_, '_, '_>, statement: u32) -> bool
+pub fn is_abstained_from(present: &StateView<'_, '_, '_>, statement: u32) -> bool
     requires { statement ≤ length (present_program present.now) }
     ensures { (present_state present.now).abstained statement ≡ result }
 {
@@ -183,28 +183,28 @@ fn left(text: &[u8], taken: usize) -> &[u8]
 }
 
 /// Returns the input that is left.
-pub fn input_left<'m>(present: &Present<'m, '_, '_>) -> &'m [u8]
+pub fn input_left<'m>(present: &StateView<'m, '_, '_>) -> &'m [u8]
     ensures { (present_state present.now).input ≡ result.now }
 {
     left(present.input, present.memory.rest.taken)
 }
 
 /// Returns the output.
-pub fn output<'m>(present: &Present<'m, '_, '_>) -> &'m [u8]
+pub fn output<'m>(present: &StateView<'m, '_, '_>) -> &'m [u8]
     ensures { (present_state present.now).output ≡ result.now }
 {
     &present.memory.rest.output
 }
 
 /// Returns the position of the tape that arrays are printed to.
-pub fn last(present: &Present<'_, '_, '_>) -> u8
+pub fn last(present: &StateView<'_, '_, '_>) -> u8
     ensures { (present_state present.now).last ≡ result }
 {
     present.memory.rest.last
 }
 
 /// Returns the position of the tape that arrays are read from.
-pub fn lastin(present: &Present<'_, '_, '_>) -> u8
+pub fn lastin(present: &StateView<'_, '_, '_>) -> u8
     ensures { (present_state present.now).lastin ≡ result }
 {
     present.memory.rest.lastin

@@ -5,17 +5,17 @@ ghost use Rattle.ick_code.specs.Compiled.{code_program};
 ghost use Rattle.ick_inspect.specs.Statements.{list_text, listed_text, position_text};
 ghost use Rattle.ick_inspect.specs.Statements.{statement_text};
 ghost use Rattle.ick_inspect.specs.Text.{Adds};
-ghost use Rattle.ick_machine.specs.Present.{present_program, present_state};
+ghost use Rattle.ick_machine.specs.StateView.{present_program, present_state};
 
-use crate::positions::Position;
+use crate::positions::LineColumn;
 use crate::readers;
 use crate::text::Text;
 use ick_code::Code;
-use ick_machine::Present;
+use ick_machine::StateView;
 
 /// Appends a line and a column: `3:1`.
 #[tactic(auto, unfolding(crate::specs::Statements::position_text))]
-pub fn append_position(text: &mut Text, position: Position)
+pub fn append_position(text: &mut Text, position: LineColumn)
     ensures { Adds text.old text.new (position_text position) }
 {
     text.push_decimal(position.line as u64);
@@ -26,7 +26,7 @@ pub fn append_position(text: &mut Text, position: Position)
 /// Appends statement `n`, from 1 to the number of statements, with its position: `5 3:1 "DO .1 <-
 /// #1"`. There is a position for each statement. No end of line is appended.
 #[tactic(auto, unfolding(crate::specs::Statements::statement_text))]
-pub fn append_statement(text: &mut Text, code: &Code<'_>, positions: &[Position], n: u32)
+pub fn append_statement(text: &mut Text, code: &Code<'_>, positions: &[LineColumn], n: u32)
     requires first { 1 ≤ n }
     requires last { n ≤ length (code_program code.now) }
     requires positions { length positions.now ≡ length (code_program code.now) }
@@ -41,7 +41,7 @@ pub fn append_statement(text: &mut Text, code: &Code<'_>, positions: &[Position]
 
 /// Appends a line of a listing.
 #[tactic(auto, unfolding(crate::specs::Statements::listed_text))]
-fn append_listed(text: &mut Text, code: &Code<'_>, positions: &[Position], place: u32, n: u32)
+fn append_listed(text: &mut Text, code: &Code<'_>, positions: &[LineColumn], place: u32, n: u32)
     requires first { 1 ≤ n }
     requires last { n ≤ length (code_program code.now) }
     requires positions { length positions.now ≡ length (code_program code.now) }
@@ -63,8 +63,8 @@ fn append_listed(text: &mut Text, code: &Code<'_>, positions: &[Position], place
 /// position for each statement.
 pub fn append_list(
     text: &mut Text,
-    present: &Present<'_, '_, '_>,
-    positions: &[Position],
+    present: &StateView<'_, '_, '_>,
+    positions: &[LineColumn],
     around: u32,
 )
     requires { length positions.now ≡ length (present_program present.now) }

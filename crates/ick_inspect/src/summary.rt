@@ -6,13 +6,13 @@ ghost use Rattle.ick_inspect.specs.Summary.{abstained_in, abstained_text, counts
 ghost use Rattle.ick_inspect.specs.Summary.{stack_text};
 ghost use Rattle.ick_inspect.specs.Summary.{state_text, statements_text, variables_text};
 ghost use Rattle.ick_inspect.specs.Text.{Adds};
-ghost use Rattle.ick_machine.specs.Present.{present_program, present_state};
+ghost use Rattle.ick_machine.specs.StateView.{present_program, present_state};
 
 use crate::names::append_variable;
 use crate::readers;
 use crate::text::Text;
 use ick_backtrack::End;
-use ick_machine::{Present, end_of};
+use ick_machine::{StateView, end_of};
 
 /// Appends the return addresses, the newest first.
 fn append_returns(text: &mut Text, returns: &[u32])
@@ -31,7 +31,7 @@ fn append_returns(text: &mut Text, returns: &[u32])
 /// Appends the NEXT stack: the return addresses, the newest first, which are numbers of statements.
 /// The line is `NEXT stack: 5 2`, or `NEXT stack: none`.
 #[tactic(auto, unfolding(crate::specs::Summary::stack_text))]
-pub fn append_stack(text: &mut Text, present: &Present<'_, '_, '_>)
+pub fn append_stack(text: &mut Text, present: &StateView<'_, '_, '_>)
     ensures { Adds text.old text.new (stack_text (present_state present.now)) }
 {
     text.push(b"NEXT stack:");
@@ -40,7 +40,7 @@ pub fn append_stack(text: &mut Text, present: &Present<'_, '_, '_>)
 }
 
 /// Appends a line for each variable.
-fn append_scalars(text: &mut Text, present: &Present<'_, '_, '_>)
+fn append_scalars(text: &mut Text, present: &StateView<'_, '_, '_>)
     ensures { Adds text.old text.new (variables_text
         (slots_of (present_program present.now)).scalars (present_state present.now)) }
 {
@@ -54,7 +54,7 @@ fn append_scalars(text: &mut Text, present: &Present<'_, '_, '_>)
 }
 
 /// Appends a line for each array.
-fn append_arrays(text: &mut Text, present: &Present<'_, '_, '_>)
+fn append_arrays(text: &mut Text, present: &StateView<'_, '_, '_>)
     ensures { Adds text.old text.new (variables_text
         (slots_of (present_program present.now)).arrays (present_state present.now)) }
 {
@@ -68,7 +68,7 @@ fn append_arrays(text: &mut Text, present: &Present<'_, '_, '_>)
 }
 
 /// Appends the numbers of the statements abstained from.
-fn append_numbers(text: &mut Text, present: &Present<'_, '_, '_>)
+fn append_numbers(text: &mut Text, present: &StateView<'_, '_, '_>)
     ensures { Adds text.old text.new (statements_text
         (abstained_in (present_program present.now) (present_state present.now))) }
 {
@@ -87,7 +87,7 @@ fn append_numbers(text: &mut Text, present: &Present<'_, '_, '_>)
 
 /// Appends the statements abstained from.
 #[tactic(auto, unfolding(crate::specs::Summary::abstained_text))]
-fn append_abstained(text: &mut Text, present: &Present<'_, '_, '_>)
+fn append_abstained(text: &mut Text, present: &StateView<'_, '_, '_>)
     ensures { Adds text.old text.new (abstained_text (present_program present.now)
         (present_state present.now)) }
 {
@@ -98,7 +98,7 @@ fn append_abstained(text: &mut Text, present: &Present<'_, '_, '_>)
 
 /// Appends how much input is left, and how much output there is.
 #[tactic(auto, unfolding(crate::specs::Summary::counts_text))]
-fn append_counts(text: &mut Text, present: &Present<'_, '_, '_>)
+fn append_counts(text: &mut Text, present: &StateView<'_, '_, '_>)
     ensures { Adds text.old text.new (counts_text (present_state present.now)) }
 {
     text.push(b"input left: ");
@@ -109,7 +109,7 @@ fn append_counts(text: &mut Text, present: &Present<'_, '_, '_>)
 }
 
 /// Appends how the run ended, or nothing before its end.
-fn append_end_line(text: &mut Text, present: &Present<'_, '_, '_>)
+fn append_end_line(text: &mut Text, present: &StateView<'_, '_, '_>)
     ensures { Adds text.old text.new (end_text (present_state present.now).end) }
 {
     match present.end {
@@ -129,7 +129,7 @@ fn append_end_line(text: &mut Text, present: &Present<'_, '_, '_>)
 /// and each array, the statements abstained from, how many bytes of input are left, how many bytes
 /// of output there are, and how the run ended, if it has.
 #[tactic(auto, unfolding(crate::specs::Summary::state_text))]
-pub fn append_state(text: &mut Text, present: &Present<'_, '_, '_>)
+pub fn append_state(text: &mut Text, present: &StateView<'_, '_, '_>)
     ensures { Adds text.old text.new
         (state_text (present_program present.now) (present_state present.now)) }
 {

@@ -39,11 +39,15 @@ pub record AreValues (rows : List Row) (v : Values) : Type 0 where
   pub input : option_map (λ s. s.now) v.input ≡ text_in (codes "input") rows
   pub trace : v.trace ≡ flag_in (codes "trace") rows
   pub most : v.most ≡ number_in 32 (codes "most") rows
+  pub memory : v.memory ≡ number_in 64 (codes "memory") rows
   pub exact : v.exact ≡ flag_in (codes "exact") rows
   pub total : v.total ≡ flag_in (codes "total") rows
+  pub ends : v.ends ≡ flag_in (codes "ends") rows
+  pub states : v.states ≡ flag_in (codes "states") rows
   pub asked : option_map (λ s. s.now) v.asked ≡ text_in (codes "asked") rows
   pub tree : v.tree ≡ flag_in (codes "tree") rows
   pub operations : v.operations ≡ flag_in (codes "operations") rows
+  pub parts : v.parts ≡ flag_in (codes "parts") rows
   pub rules : v.rules ≡ flag_in (codes "rules") rows
   pub instructions : v.instructions ≡ flag_in (codes "instructions") rows
   pub traces : v.traces ≡ flag_in (codes "traces") rows

@@ -5,9 +5,8 @@ ghost use Rattle.ick_source.specs.Refusals.{longest};
 ghost use Rattle.ick_job.specs.JobEnd.{Leaves, LeavesStreams};
 ghost use Rattle.ick_job.specs.Input.{EndsCut, EndsUnopened, EndsUnread, longest_input};
 
-use crate::files::Files;
 use crate::job_end::JobEnd;
-use ick_explorer::{ByteSource, ReadFault, read_first};
+use ick_devices::{ByteSource, Files, ReadFault, read_first};
 use std::alloc::Global;
 
 /// How many bytes the longest source has, and the longest input (this profile).

@@ -1,7 +1,6 @@
 //! How a job of a command line reads its files and its input, how it ends, and how its end is
 //! reported. The command lines of all programs rest on it.
 //!
-//! - `files`: files that are opened by name
 //! - `words`: descriptions of commands, their arguments, and the values that are given for them
 //! - `choices`: the choices that a text has
 //! - `notice`: error texts
@@ -17,7 +16,6 @@
 #![tactic(auto)]
 
 mod choices;
-mod files;
 mod input;
 mod job_end;
 mod notice;
@@ -31,7 +29,6 @@ mod words;
 mod words_fault;
 
 pub use choices::{MOST_CHOICES, choices_of};
-pub use files::Files;
 pub use input::{LONGEST, read_file, read_front, read_input, read_named};
 pub use job_end::JobEnd;
 pub use notice::{Message, Notice};
@@ -42,8 +39,8 @@ pub use status::Status;
 pub use stopped::{Stop, stopped_run};
 pub use usage::answer_words;
 pub use words::{
-    ASKED, Argument, BUG, CHOICES, COUNT, Description, EXACT, FILE, FROM, Form, INPUT,
-    INSTRUCTIONS, LIMIT, MOST, OPERATIONS, RULES, SEED, STATEMENT, TOTAL, TRACE, TRACES, TREE,
-    Values, values_given,
+    ASKED, Argument, BUG, CHOICES, COUNT, Description, ENDS, EXACT, FILE, FROM, Form, INPUT,
+    INSTRUCTIONS, LIMIT, MEMORY, MOST, OPERATIONS, PARTS, RULES, SEED, STATEMENT, STATES, TOTAL,
+    TRACE, TRACES, TREE, Values, values_given,
 };
 pub use words_fault::{WordsFault, refuse_words};

@@ -4,7 +4,7 @@ ghost use Rattle.ick_job.specs.JobEnd.{Answers, EndsSent, LeavesWriter, message_
 
 use crate::job_end::JobEnd;
 use crate::notice::Message;
-use ick_explorer::{ByteSink, write_whole};
+use ick_devices::{ByteSink, write_whole};
 
 /// Writes an output. If all of it was written, the work ends with this status and error text.
 pub fn send<W: ByteSink>(output: &[u8], status: u8, message: Message, writer: &mut W) -> JobEnd

@@ -5,7 +5,7 @@ ghost use Rattle.ick_job.specs.Serve.{Finishes};
 
 use crate::job_end::JobEnd;
 use crate::status::Status;
-use ick_explorer::{ByteSink, write_whole};
+use ick_devices::{ByteSink, write_whole};
 
 /// Writes the error text of a job's end, and returns its status.
 pub fn report<E: ByteSink>(job_end: &JobEnd, errors: &mut E) -> Status

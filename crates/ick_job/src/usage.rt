@@ -11,7 +11,7 @@ use crate::reporting::{finish, report};
 use crate::status::Status;
 use clap::Error;
 use clap::error::ErrorKind;
-use ick_explorer::{ByteSink, write_whole};
+use ick_devices::{ByteSink, write_whole};
 use std::alloc::Global;
 
 /// Answers arguments that ask for no job. The text of a mistake goes to the errors, and the text

@@ -8,8 +8,8 @@ mod values;
 
 pub use argument::{Argument, Form};
 pub use arguments::{
-    ASKED, BUG, CHOICES, COUNT, EXACT, FILE, FROM, INPUT, INSTRUCTIONS, LIMIT, MOST, OPERATIONS,
-    RULES, SEED, STATEMENT, TOTAL, TRACE, TRACES, TREE,
+    ASKED, BUG, CHOICES, COUNT, ENDS, EXACT, FILE, FROM, INPUT, INSTRUCTIONS, LIMIT, MEMORY, MOST,
+    OPERATIONS, PARTS, RULES, SEED, STATEMENT, STATES, TOTAL, TRACE, TRACES, TREE,
 };
 pub use description::Description;
 pub use given::{Values, values_given};

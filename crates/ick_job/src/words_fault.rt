@@ -7,7 +7,7 @@ ghost use Rattle.ick_job.specs.Usage.{words_notice, words_status};
 use crate::notice::Notice;
 use crate::reporting::finish;
 use crate::status::Status;
-use ick_explorer::ByteSink;
+use ick_devices::ByteSink;
 
 /// Why the arguments can't be read.
 #[derive(Clone, Copy, Debug)]

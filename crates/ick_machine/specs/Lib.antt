@@ -4,7 +4,7 @@ pub mod Asked
 pub mod Marks
 pub mod Copies
 pub mod Seen
-pub mod Present
+pub mod StateView
 pub mod Feeds
 pub mod Stops
 pub mod LiveAsk

@@ -11,7 +11,7 @@ use ick_bits::{Fault, FaultKind};
 use ick_code::Code;
 use ick_engine::RawEnd;
 use ick_runtime::Memory;
-use ick_traces::Followed;
+use ick_traces::TracedProgram;
 
 /// How a run ends, or stops.
 #[derive(Clone, Copy, Debug, PartialEq, Eq)]
@@ -79,7 +79,7 @@ pub fn asked_at<'c>(status: u8) -> Ask<'c>
 
 /// Returns what is asked before the next step of a run whose input is a text (Revised Manual, 4.3).
 pub fn answer<'c, 'a>(
-    lowered: &Followed<'c, 'a>,
+    lowered: &TracedProgram<'c, 'a>,
     memory: &Memory,
     end: Option<RawEnd>,
     text: &'c [u8],
@@ -91,5 +91,5 @@ pub fn answer<'c, 'a>(
     if let Some(ended) = end {
         return Ask::Ended(end_of(lowered.program().code, text, ended));
     }
-    asked_at(memory.statuses[memory.cursor.place as usize])
+    asked_at(memory.statuses[memory.point.place as usize])
 }

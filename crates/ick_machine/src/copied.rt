@@ -2,9 +2,9 @@
 
 ghost use Rattle.std.specs.Prelude.{◌≡◌, [], IfOk, vec_len};
 ghost use Rattle.ick_code.specs.{Compiled.code_program, meaning.Move.first_state};
-ghost use Rattle.ick_machine.specs.{Copies.AreCopies, Present.{present_program, present_state}};
+ghost use Rattle.ick_machine.specs.{Copies.AreCopies, StateView.{present_program, present_state}};
 
-use crate::{Inspect, Present, Trailed};
+use crate::{Inspect, StateView, Trailed};
 use ick_backtrack::{Ask, Asks, Backtrack};
 use ick_bits::NoMemory;
 use ick_code::Code;
@@ -56,7 +56,7 @@ impl<'c, 'a> Copied<'c, 'a> {
     }
 
     /// Returns the parts that represent the present state. Nothing changes.
-    pub fn present(&self) -> Present<'_, 'c, 'a>
+    pub fn present(&self) -> StateView<'_, 'c, 'a>
         ensures program { present_program result ≡ (copied_machine self.now).program }
         ensures state { present_state result ≡ (copied_machine self.now).state }
     {

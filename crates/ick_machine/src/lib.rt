@@ -22,10 +22,10 @@ mod trailed;
 
 pub use asking::{EndKind, LiveAsk, asked_at, end_of};
 pub use copied::Copied;
-pub use ick_backtrack::{Ask, Asks, Backtrack, End, FeedFault};
-pub use ick_engine::Feed;
+pub use ick_backtrack::{Ask, Asks, Backtrack, End};
+pub use ick_devices::{Feed, FeedFault};
 pub use live::Live;
 pub use outlet::{Outlet, OutletFault, RunFault};
-pub use present::{Inspect, Present};
+pub use present::{Inspect, StateView};
 pub use steps::make_steps;
 pub use trailed::Trailed;

@@ -5,21 +5,22 @@ ghost use Rattle.std.specs.Prelude.{◌≡◌, ◌+◌, ◌<◌, ◌≤◌, ◌^
 ghost use Rattle.std.specs.Prelude.{IfOk, OnOk, OnErr, vec_len, vec_capacity};
 ghost use Rattle.ick_code.specs.{Compiled.code_program, meaning.Move.{advance, ask, first_state}};
 ghost use Rattle.ick_backtrack.specs.Asked.{IsGoing};
-ghost use Rattle.ick_engine.specs.Feeds.{feed_failures};
+ghost use Rattle.ick_devices.specs.Feeds.{feed_failures};
 ghost use Rattle.ick_machine.specs.{Feeds.MeetsInput, RunIn.CanGoOn};
 
 use crate::asking::answer;
 use crate::outlet::Printer;
-use crate::steps::stopped;
+use crate::steps::steps_of_exit;
 use crate::{EndKind, LiveAsk, Outlet, RunFault, end_of, make_steps};
-use ick_backtrack::{Ask, End, FeedFault};
+use ick_backtrack::{Ask, End};
 use ick_bits::{NoMemory, append_message};
 use ick_code::Code;
-use ick_engine::{Feed, FeedReader, RawEnd, Reader, make_single};
+use ick_devices::{Feed, FeedFault};
+use ick_engine::{FeedReader, RawEnd, Reader, do_lone_write_in};
 use ick_lowering::lower;
 use ick_runtime::{Memory, NoTraces, Nobody, fresh_memory};
 use ick_syntax::Kind;
-use ick_traces::{Followed, add_traces};
+use ick_traces::{TracedProgram, add_traces};
 use std::alloc::Global;
 use std::snapshot::Snapshot;
 
@@ -29,7 +30,7 @@ use std::snapshot::Snapshot;
 /// was last cleared.
 #[derive(Drop)]
 pub struct Live<'c, 'a> {
-    lowered: Followed<'c, 'a>,
+    lowered: TracedProgram<'c, 'a>,
     memory: Memory,
     end: Option<RawEnd>,
     /// The last line that was read.
@@ -112,7 +113,7 @@ impl<'c, 'a> Live<'c, 'a> {
     {
         let program = self.lowered.program();
         let code = program.code;
-        let here = self.memory.cursor.place;
+        let here = self.memory.point.place;
         let allowed = here > 0 && here <= code.count() && matches!(code.kind(here), Kind::WriteIn);
         self.failed = true;
         let printed = self.memory.rest.output.clone()?;
@@ -128,8 +129,8 @@ impl<'c, 'a> Live<'c, 'a> {
         let end = &mut self.end;
         let notes = &mut Nobody;
         let answer = Some(done);
-        let came = match make_single(program, memory, reader) {
-            Some(exit) => stopped(exit, 1, end),
+        let came = match do_lone_write_in(program, memory, reader) {
+            Some(exit) => steps_of_exit(exit, 1, end),
             None => make_steps(program, memory, end, notes, reader, &NoTraces, 1, answer),
         };
         if let Err(fault) = reader.outcome(came) {

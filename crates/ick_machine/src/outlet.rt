@@ -8,7 +8,8 @@ ghost use Rattle.ick_machine.specs.{Printing.outlet_failures, declared.live.Live
 
 use crate::Live;
 use ick_bits::NoMemory;
-use ick_engine::{Feed, Line, Reader};
+use ick_devices::Feed;
+use ick_engine::{Line, Reader};
 use std::snapshot::Snapshot;
 
 /// Tells that a text wasn't written whole.
@@ -53,7 +54,7 @@ pub trait Outlet: Drop {
 }
 
 /// How many bytes of output a memory holds before it is cleared, without the last statement's.
-const MOST: usize = 4096;
+const MOST_HELD: usize = 4096;
 
 /// Lets the output of a machine leave while its run goes on. The run takes no input, and waits
 /// before each WRITE IN. For contracts alone, it keeps the machine, its feed and the outlet as they
@@ -116,7 +117,7 @@ impl<'c, 'a, F: Feed, O: Outlet> Reader for Printer<'c, 'a, F, O> {
             }
             self.shown = output.len();
         }
-        Ok(self.shown > MOST)
+        Ok(self.shown > MOST_HELD)
     }
 
     fn line(&mut self, from: usize) -> Result<Option<Line>, NoMemory> {

@@ -11,7 +11,7 @@ use ick_runtime::Memory;
 /// The parts that represent the present state of a machine: the memory, the end of the run, if
 /// there is one, and the whole input. Its type says that the memory can be read.
 #[derive(Clone, Copy)]
-pub struct Present<'m, 'c, 'a> {
+pub struct StateView<'m, 'c, 'a> {
     pub lowered: &'m Lowered<'c, 'a>,
     pub memory: &'m Memory,
     pub end: Option<RawEnd>,
@@ -19,7 +19,7 @@ pub struct Present<'m, 'c, 'a> {
     pub ghost ready: { ∥ CanGoOn lowered.now memory.now ∥₁ },
 }
 
-impl<'m, 'c, 'a> Present<'m, 'c, 'a> {
+impl<'m, 'c, 'a> StateView<'m, 'c, 'a> {
     /// States that the memory can be read.
     pub fn law(&self)
         ensures { CanGoOn self.now.lowered.now self.now.memory.now }

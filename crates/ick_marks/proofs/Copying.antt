@@ -9,7 +9,7 @@ use Rattle.ick_marks.proofs.Saving.{first_low, kept_state, loaded, same_parts_tr
 pub record IsCopy (one copy : Saved) : Type 0 where
   pub place_same : copy.place ≡ one.place
   pub numbers_same : copy.numbers.items ≡ one.numbers.items
-  pub home_same : copy.home.items ≡ one.home.items
+  pub home_same : copy.store_target.items ≡ one.store_target.items
   pub statuses_same : copy.statuses.items ≡ one.statuses.items
   pub returns_same : copy.returns.items ≡ one.returns.items
   pub parts_same : AreSame (parts_of one.rest) (parts_of copy.rest)
@@ -38,7 +38,7 @@ copy_state code lowered one copy is input = search rules
 pub record Fits (saved : Saved) (v : View) : Type 0 where
   pub numbers : length saved.numbers.items ≤ length v.registers
   pub returns : length saved.returns.items ≤ length v.returns
-  pub home : length v.home ≡ length saved.home.items
+  pub store_target : length v.store_target ≡ length saved.store_target.items
   pub statuses : length v.statuses ≡ length saved.statuses.items
 
 pub kept_fits : (code : Code) (lowered : LoweredParts) (saved : Saved) (v : View) → IsProgram code lowered →
@@ -49,7 +49,7 @@ kept_fits code lowered saved v is kept steady = ∥∥₁_elim kept (hlevel prop
     record {
       numbers = rw was.numbers_kept (first_low code lowered is v h.0 steady h.1);
       returns = rw was.returns_kept (used_low code lowered is v h.0 steady h.1);
-      home = steady.home ∙ sym (ap length was.home_kept ∙ there.home);
+      store_target = steady.store_target ∙ sym (ap length was.home_kept ∙ there.store_target);
       statuses = steady.statuses.count ∙ sym (ap length was.statuses_kept ∙ there.statuses.count);
     })
 
@@ -57,10 +57,10 @@ kept_fits code lowered saved v is kept steady = ∥∥₁_elim kept (hlevel prop
 pub kept_loaded : (code : Code) (lowered : LoweredParts) (saved : Saved) (old new : View) → IsProgram code lowered →
     IsKept code lowered saved → IsSteady code lowered old →
     new.registers ≡ saved.numbers.items ++ drop (length saved.numbers.items) old.registers →
-    new.returns ≡ saved.returns.items ++ drop (length saved.returns.items) old.returns → new.home ≡ saved.home.items →
+    new.returns ≡ saved.returns.items ++ drop (length saved.returns.items) old.returns → new.store_target ≡ saved.store_target.items →
     new.statuses ≡ saved.statuses.items → new.place ≡ saved.place → new.depth ≡ length saved.returns.items →
     AreSame (parts_of saved.rest) new.parts → IsLoaded code lowered (saved_view saved) new
-kept_loaded code lowered saved old new is kept steady registers returns home statuses place depth parts = record {
+kept_loaded code lowered saved old new is kept steady registers returns store_target statuses place depth parts = record {
   ready = ready_of code lowered new kept (λ h. (by h).ready);
   states = λ input. state_of_both _ _ kept
       (λ h. (by h).states input ∙ sym (kept_state code lowered saved h.0 is.lowered_is.base h.2 input));
@@ -69,7 +69,7 @@ kept_loaded code lowered saved old new is kept steady registers returns home sta
     by : (h : (m : View) × IsReady code lowered m × IsSaved lowered saved m) → IsLoaded code lowered h.0 new
     by h = let was = h.2 in
         loaded code lowered is old h.0 steady h.1 new (parts_of saved.rest) (rw was.numbers_kept at registers)
-        (rw was.returns_kept at returns) (home ∙ was.home_kept) (statuses ∙ was.statuses_kept) (place ∙ was.place_kept)
+        (rw was.returns_kept at returns) (store_target ∙ was.home_kept) (statuses ∙ was.statuses_kept) (place ∙ was.place_kept)
         (depth ∙ ap length was.returns_kept) was.parts_kept parts
 
 -- for states that are copied

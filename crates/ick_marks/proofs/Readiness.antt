@@ -10,9 +10,9 @@ apart-prop p q apart (inl a) (inr b) = absurd (apart a b)
 apart-prop p q apart (inr a) (inl b) = absurd (apart b a)
 apart-prop p q apart (inr a) (inr b) = ap inr (q a b)
 
-homes-prop : (lowered : LoweredParts) (home : List ℕ) →
-    IsProp ((k : ℕ) → k < lowered.layout.first → IsHome lowered home k)
-homes-prop lowered home f g = fun_ext (λ k. fun_ext (λ low. apart-prop (hlevel props) (hlevel props)
+homes-prop : (lowered : LoweredParts) (store_target : List ℕ) →
+    IsProp ((k : ℕ) → k < lowered.layout.first → IsHome lowered store_target k)
+homes-prop lowered store_target f g = fun_ext (λ k. fun_ext (λ low. apart-prop (hlevel props) (hlevel props)
     (λ same other. omega (arith, low, same, other.1)) (f k low) (g k low)))
 
 below-prop : (bound : ℕ) (ns : List ℕ) → IsProp (AllBelow bound ns)

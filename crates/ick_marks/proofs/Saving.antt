@@ -5,7 +5,7 @@ use Rattle.ick_marks.proofs.Names.{IsProgram, numbers_on, saved_view, take-take,
 use Rattle.ick_marks.proofs.Names.{take-append-le, take-map, Code, IsReady, IsSaved, Like, map-map, Name, Saved, View}
 use Rattle.std.proofs.lemmas.List.{length-append, length-drop, map-append, map-set, take_more}
 use Rattle.ick_marks.specs.Saved.{flagged}
-use Rattle.ick_runtime.specs.{declared.memory.Array.Array as Kept, declared.memory.Rest.Rest, Undo.IsRestored, Undo.SameFirst}
+use Rattle.ick_runtime.specs.{declared.memory.Array.Array as Kept, declared.memory.Parts.Parts as KeptParts, Undo.IsRestored, Undo.SameFirst}
 use Rattle.ick_runtime.{specs.View.{map_of, scalar_names}, proofs.StashLemmas.parts_same}
 use Rattle.ick_runtime.proofs.{Restoring.all_same, Restoring.state_by, Steadiness.steady_by, Undoing.alike}
 
@@ -53,7 +53,7 @@ firsts xs ys same = cc (ap (map (λ p. p.0)) same, map-map (λ p. p.0) flagged x
 seconds : (xs ys : List Kept) → map flagged xs ≡ map flagged ys → map is_hidden xs ≡ map is_hidden ys
 seconds xs ys same = cc (ap (map (λ p. p.1)) same, map-map (λ p. p.1) flagged xs, map-map (λ p. p.1) flagged ys)
 
-pub rest_same : (p q : Rest) → map flagged q.arrays.items ≡ map flagged p.arrays.items →
+pub rest_same : (p q : KeptParts) → map flagged q.arrays.items ≡ map flagged p.arrays.items →
     map numbers_on q.scalar_stashes.items ≡ map numbers_on p.scalar_stashes.items →
     map arrays_on q.array_stashes.items ≡ map arrays_on p.array_stashes.items → q.taken ≡ p.taken →
     q.output.items ≡ p.output.items → q.last ≡ p.last → q.lastin ≡ p.lastin → AreSame (parts_of p) (parts_of q)
@@ -107,10 +107,10 @@ module _ (code : Code) (lowered : LoweredParts) (is : IsProgram code lowered) wh
     used_low = omega (arith, used_count, marked.steady.depth, was.returns)
 
     pub loaded : (new : View) (kept : Parts) → new.registers ≡ first ++ drop (length first) old.registers →
-        new.returns ≡ used ++ drop (length used) old.returns → new.home ≡ m.home → new.statuses ≡ m.statuses →
+        new.returns ≡ used ++ drop (length used) old.returns → new.store_target ≡ m.store_target → new.statuses ≡ m.statuses →
         new.place ≡ m.place → new.depth ≡ length used → AreSame m.parts kept → AreSame kept new.parts →
         IsLoaded code lowered m new
-    loaded new kept registers returns home statuses place depth saved copied = record {
+    loaded new kept registers returns store_target statuses place depth saved copied = record {
       ready = whole.ready;
       states = λ input. whole.states input ∙ state_with m new.parts parts input;
     }

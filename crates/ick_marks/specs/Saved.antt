@@ -29,7 +29,7 @@ pub record AreSame (p q : Parts) : Type 0 where
 pub record IsSaved (lowered : LoweredParts) (saved : Saved) (v : View) : Type 0 where
   pub place_kept : saved.place ≡ v.place
   pub numbers_kept : saved.numbers.items ≡ take lowered.layout.base v.registers
-  pub home_kept : saved.home.items ≡ v.home
+  pub home_kept : saved.store_target.items ≡ v.store_target
   pub statuses_kept : saved.statuses.items ≡ v.statuses
   pub returns_kept : saved.returns.items ≡ take v.depth v.returns
   pub parts_kept : AreSame v.parts (parts_of saved.rest)
@@ -41,7 +41,7 @@ saved_view saved = record {
   depth = length saved.returns.items;
   returns = saved.returns.items;
   registers = saved.numbers.items;
-  home = saved.home.items;
+  store_target = saved.store_target.items;
   statuses = saved.statuses.items;
   parts = parts_of saved.rest;
 }

@@ -5,7 +5,7 @@ ghost use Rattle.ick_marks.specs.Saved.{AreSame};
 ghost use Rattle.ick_runtime.specs.View.{parts_of};
 
 use ick_bits::NoMemory;
-use ick_runtime::{Array, Rest, Stash};
+use ick_runtime::{Array, Parts, Stash};
 use std::alloc::Global;
 
 /// A value that is copied, as far as a state has it.
@@ -89,10 +89,10 @@ fn copy_all<T: Part>(alloc: Global, items: &[T]) -> Result<Vec<T>, NoMemory>
 
 /// Copies the parts of a state that few instructions change. Stashes of the copy have no spare
 /// room.
-pub fn copy_rest(alloc: Global, rest: &Rest) -> Result<Rest, NoMemory>
+pub fn copy_rest(alloc: Global, rest: &Parts) -> Result<Parts, NoMemory>
     ensures { IfOk result (λ copy. AreSame (parts_of rest.now) (parts_of copy)) }
 {
-    Ok(Rest {
+    Ok(Parts {
         arrays: copy_all(alloc, &rest.arrays)?,
         scalar_stashes: copy_all(alloc, &rest.scalar_stashes)?,
         array_stashes: copy_all(alloc, &rest.array_stashes)?,

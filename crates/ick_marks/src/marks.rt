@@ -11,7 +11,7 @@ ghost use Rattle.ick_runtime.specs.{Memory.view_in, Steady.{IsReady, IsSteady}};
 use crate::trail::Trail;
 use ick_instructions::Lowered;
 use ick_runtime::{
-    Array, ArrayChange, Entry, Memory, Rest, drop_at, exchange, put_at, set_element, set_hidden,
+    Array, ArrayChange, Entry, Memory, Parts, drop_at, exchange, put_at, set_element, set_hidden,
 };
 
 /// A mark: the place and the depth of the NEXT stack, and how many changes were noted before it.
@@ -26,10 +26,10 @@ pub struct Mark {
 /// changes noted so far belong to older marks.
 #[tactic(auto, using(crate::proofs::Changes::marked))]
 pub fn make_mark(trail: &mut Trail, memory: &Memory) -> Mark
-    requires { trail.old.low ≤ memory.now.cursor.depth }
-    ensures place { result.place ≡ memory.now.cursor.place }
-    ensures depth { result.depth ≡ memory.now.cursor.depth }
-    ensures low { trail.new.low ≡ memory.now.cursor.depth }
+    requires { trail.old.low ≤ memory.now.point.depth }
+    ensures place { result.place ≡ memory.now.point.place }
+    ensures depth { result.depth ≡ memory.now.point.depth }
+    ensures low { trail.new.low ≡ memory.now.point.depth }
     ensures base { trail.new.base ≡ trail.old.base }
     ensures changes { changes_in trail.new ≡ changes_in trail.old }
     ensures count { result.changes ≡ length (changes_in trail.new) }
@@ -41,12 +41,12 @@ pub fn make_mark(trail: &mut Trail, memory: &Memory) -> Mark
         Rewinds trail.new.base (changes_in trail.new) trail.new.low k (view_in memory.now) m }
 {
     let changes = trail.entries.len();
-    trail.low = memory.cursor.depth;
+    trail.low = memory.point.depth;
     trail.kept = changes;
     trail.newest = u32::MAX;
     Mark {
-        place: memory.cursor.place,
-        depth: memory.cursor.depth,
+        place: memory.point.place,
+        depth: memory.point.depth,
         changes,
     }
 }
@@ -90,7 +90,7 @@ fn undo(memory: &mut Memory, entry: Entry)
     let rest = &mut memory.rest;
     match entry {
         Entry::Register(at, old) => put_back(&mut memory.registers, at, old),
-        Entry::Home(at, old) => put_back(&mut memory.home, at, old),
+        Entry::Home(at, old) => put_back(&mut memory.store_target, at, old),
         Entry::Status(at, old) => put_back(&mut memory.statuses, at, old),
         Entry::Return(at, old) => put_back(&mut memory.returns, at, old),
         Entry::Element(slot, at, old) => put_element(&mut rest.arrays, slot, at, old),
@@ -124,7 +124,7 @@ fn replace_array(arrays: &mut Vec<Array>, slot: u32, old: &mut Array)
 
 /// Undoes a change of an array. What is left of the old one is spare.
 #[tactic(auto, using(crate::proofs::Changes::replacing))]
-fn undo_array(rest: &mut Rest, change: ArrayChange, slot: u32, old: &mut Array)
+fn undo_array(rest: &mut Parts, change: ArrayChange, slot: u32, old: &mut Array)
     ensures { parts_of rest.new
         ≡ undone_array change slot (array_of old.old) (parts_of rest.old) }
 {
@@ -205,6 +205,6 @@ pub fn back(trail: &mut Trail, mark: Mark, memory: &mut Memory, program: &Lowere
     trail.kept = trail.entries.len();
     trail.newest = u32::MAX;
     trail.low = mark.depth;
-    memory.cursor.place = mark.place;
-    memory.cursor.depth = mark.depth;
+    memory.point.place = mark.place;
+    memory.point.depth = mark.depth;
 }

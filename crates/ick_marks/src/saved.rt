@@ -5,7 +5,7 @@ ghost use Rattle.std.specs.Prelude.{◌≡◌, ◌++◌, ◌≤◌, drop, length
 use crate::copy::copy_rest;
 use ick_bits::NoMemory;
 use ick_instructions::Lowered;
-use ick_runtime::{Memory, Rest};
+use ick_runtime::{Memory, Parts};
 use std::alloc::Global;
 use std::mem::swap;
 
@@ -18,13 +18,13 @@ pub struct Saved {
     /// The numbers of all scalars, by their slots.
     pub numbers: Vec<u32>,
     /// The register that each register leads to, as in a `Memory`.
-    pub home: Vec<u32>,
+    pub store_target: Vec<u32>,
     /// The statuses of all statements, by their numbers.
     pub statuses: Vec<u8>,
     /// The return addresses, the newest last.
     pub returns: Vec<u32>,
     /// The parts that few instructions change.
-    pub rest: Rest,
+    pub rest: Parts,
 }
 
 /// Overwrites the first numbers of a list.
@@ -56,11 +56,11 @@ impl Saved {
         // The first slice needs that a memory has a register for each scalar.
         program.law();
         Ok(Saved {
-            place: memory.cursor.place,
+            place: memory.point.place,
             numbers: Vec::from_slice(alloc, &memory.registers[..program.layout().base as usize])?,
-            home: Vec::from_slice(alloc, &memory.home)?,
+            store_target: Vec::from_slice(alloc, &memory.store_target)?,
             statuses: Vec::from_slice(alloc, &memory.statuses)?,
-            returns: Vec::from_slice(alloc, &memory.returns[..memory.cursor.depth])?,
+            returns: Vec::from_slice(alloc, &memory.returns[..memory.point.depth])?,
             rest: copy_rest(alloc, &memory.rest)?,
         })
     }
@@ -81,10 +81,10 @@ impl Saved {
         program.code.law();
         put_first(memory.registers.as_mut_slice(), &self.numbers);
         put_first(memory.returns.as_mut_slice(), &self.returns);
-        memory.home.copy_from_slice(&self.home);
+        memory.store_target.copy_from_slice(&self.store_target);
         memory.statuses.copy_from_slice(&self.statuses);
-        memory.cursor.place = self.place;
-        memory.cursor.depth = self.returns.len();
+        memory.point.place = self.place;
+        memory.point.depth = self.returns.len();
         swap(&mut memory.rest, &mut self.rest);
     }
 
@@ -111,7 +111,7 @@ impl Saved {
         Ok(Saved {
             place: self.place,
             numbers: Vec::from_slice(alloc, &self.numbers)?,
-            home: Vec::from_slice(alloc, &self.home)?,
+            store_target: Vec::from_slice(alloc, &self.store_target)?,
             statuses: Vec::from_slice(alloc, &self.statuses)?,
             returns: Vec::from_slice(alloc, &self.returns)?,
             rest: copy_rest(alloc, &self.rest)?,

@@ -2,7 +2,7 @@
 use Rattle.std.proofs.Common.{◌≡◌, ◌⊎◌, inl, inr, Bool, map, List, [], ◌∷◌, ℕ, sym, ◌∙◌, subst}
 use Rattle.std.specs.List.{Contains}
 use Rattle.ick_code.specs.meaning.State.{State}
-use Rattle.ick_backtrack.specs.Machine.{Program}
+use Rattle.ick_outcomes.specs.Programs.{Program}
 use Rattle.ick_explorer.specs.Order.{IsBelow, IsIncreasing}
 use Rattle.ick_explorer.proofs.ListingLaws.{not_below_itself, below_one_way, contains-head, contains-tail}
 use Rattle.ick_explorer.proofs.ListingLaws.{contains-cases, contains-key}

@@ -7,15 +7,14 @@ use Rattle.std.proofs.lemmas.List.{append-nil, length-drop, length-take-le, take
 use Rattle.std.proofs.lemmas.Bool.{cases_lt}
 use Rattle.std.proofs.Math.Seq.{take-suc}
 use Rattle.ick_code.specs.meaning.State.{State, Ending}
-use Rattle.ick_code.specs.meaning.Move.{Asking, plain, choice, ended, ask, advance}
+use Rattle.ick_code.specs.meaning.Move.{Asking, plain, choice, ended}
+use Rattle.ick_outcomes.specs.Programs.{ask, advance, Program, after_steps, IsPlain, RunsOn, Leads, IsWhole, run}
 use Rattle.ick_backtrack.specs.Asked.{Finish, IsGoing, asked_at_end, at_limit, finish_of, finished}
 use Rattle.ick_backtrack.specs.declared.asking.End.{End}
-use Rattle.ick_backtrack.specs.Machine.{Machine, Program}
-use Rattle.ick_backtrack.specs.Steps.{after_steps, IsPlain, RunsOn}
-use Rattle.ick_explorer.specs.Paths.{Leads, later}
-use Rattle.ick_explorer.specs.Runs.{Execution, IsEnd, IsWhole, ends, run, stays}
-use Rattle.ick_explorer.proofs.RunLaws.{Leads-choice, Leads-on, Leads-plain, Leads-start, Leads-wants, ends_limit}
-use Rattle.ick_explorer.proofs.RunLaws.{run-ended, run-plain}
+use Rattle.ick_explorer.specs.Paths.{later}
+use Rattle.ick_explorer.specs.Runs.{Execution, IsEnd, ends, stays}
+use Rattle.ick_outcomes.proofs.ProgramRuns.{Leads-choice, Leads-on, Leads-plain, Leads-start, Leads-wants, limit-going}
+use Rattle.ick_outcomes.proofs.ProgramRuns.{run-ended, run-plain}
 use Rattle.ick_outcomes.specs.Accounts.{Configuration}
 use Rattle.ick_outcomes.specs.Askers.{IsFollowed, asked, asked_on, asker_text, askers_text}
 use Rattle.ick_outcomes.specs.declared.following.AskedBy.{AskedBy}
@@ -73,7 +72,7 @@ follows-plain p s limit c t left askers h a =
     }
 
 -- many plain steps
-asked-on : (p : Program) (t u : State) (k left : ℕ) (more : List Bool) → RunsOn IsPlain p t k u → k ≤ left →
+asked-on : (p : Program) (t u : State) (k left : ℕ) (more : List Bool) → RunsOn p t k u → k ≤ left →
     asked p t left more ≡ asked p u (left - k) more
 asked-on p t u k left more runs within =
     subst (λ x. asked p t left more ≡ asked p x (left - k) more) (sym runs.leads) (up_to k (omega arith))
@@ -86,7 +85,7 @@ asked-on p t u k left more runs within =
         ∙ asked-plain p (after_steps p t i) (left - suc i) more (runs.on i (omega (arith, le))))
 
 pub follows-on : (p : Program) (s : State) (limit : ℕ) (c : List Bool) (t u : State) (left k : ℕ)
-    (askers : List AskedBy) → Follows p s limit c t left askers → RunsOn IsPlain p t k u → k ≤ left →
+    (askers : List AskedBy) → Follows p s limit c t left askers → RunsOn p t k u → k ≤ left →
     Follows p s limit c u (left - k) askers
 follows-on p s limit c t u left k askers h runs le =
     let w = h.within in
@@ -209,13 +208,10 @@ pub ended_at : (p : Program) (t : State) (left : ℕ) (f : Finish) → asked_at_
 ended_at p t left (finished e) h = λ d. let is : ended e ≡ ask p t = cc in run-ended p t left d e (sym is)
 ended_at p t left at_limit h = let bad : None ≡ Some (ask p t) = h in cc
 
-abbrev machine_at : Program → State → Machine
-machine_at p t = record { program = p; state = t; marks = []; work = 0 }
-
 limit_at : (p : Program) (t : State) (a : Asking) → ask p t ≡ a → (going : (e : Ending) → a ≡ ended e → ⊥)
     → EndsAt p t 0 at_limit
-limit_at p t plain is going = λ d. (ends_limit 0 (machine_at p t) 0 refl (subst IsGoing (sym is) tt)).stays_here d
-limit_at p t (choice k) is going = λ d. (ends_limit 0 (machine_at p t) 0 refl (subst IsGoing (sym is) tt)).stays_here d
+limit_at p t plain is going = λ d. limit-going p t d plain is tt
+limit_at p t (choice k) is going = λ d. limit-going p t d (choice k) is tt
 limit_at p t (ended e) is going = absurd (going e refl)
 
 pub plain_at_limit : (p : Program) (t : State) (left : ℕ) → left ≡ 0 → ask p t ≡ plain → EndsAt p t left at_limit
@@ -229,10 +225,10 @@ choice_at_limit p t left k none is =
 
 -- the forms in which functions use these laws: the state is that of a configuration
 pub went_on : (p q : Program) (s : State) (limit : ℕ) (c : List Bool) (t u : State) (left k : ℕ)
-    (askers : List AskedBy) → q ≡ p → Follows p s limit c t left askers → RunsOn IsPlain q t k u → k ≤ left →
+    (askers : List AskedBy) → q ≡ p → Follows p s limit c t left askers → RunsOn q t k u → k ≤ left →
     Follows p s limit c u (left - k) askers
 went_on p q s limit c t u left k askers same h runs le =
-    follows-on p s limit c t u left k askers h (subst (λ x. RunsOn IsPlain x t k u) same runs) le
+    follows-on p s limit c t u left k askers h (subst (λ x. RunsOn x t k u) same runs) le
 
 pub followed_by : {S : Type 0} (state_of : S → State) (p : Program) (s : State) (limit : ℕ) (c : List Bool)
     (mine theirs : S) (left at : ℕ) (end end' : End) (askers askers' : List AskedBy) →
@@ -250,7 +246,7 @@ pub stepped_plain : {S : Type 0} (seen : S → Configuration) (p : Program) (s :
     (old new : S) (left k : ℕ) (askers : List AskedBy) →
     Follows p s limit c (seen old).state left askers → (seen old).program ≡ p →
     ask (seen old).program (seen old).state ≡ plain → 0 < left →
-    RunsOn IsPlain (seen old).program (advance (seen old).program (seen old).state false) k (seen new).state →
+    RunsOn (seen old).program (advance (seen old).program (seen old).state false) k (seen new).state →
     k ≤ left - 1 → Follows p s limit c (seen new).state (left - (k + 1)) askers
 stepped_plain seen p s limit c old new left k askers h same plainly some runs le =
     let t = (seen old).state in
@@ -270,7 +266,7 @@ pub stepped_chosen : {S : Type 0} (seen : S → Configuration) (p : Program) (s 
     Follows p s limit (take (length askers) c) (seen old).state left askers → (seen old).program ≡ p →
     ask (seen old).program (seen old).state ≡ choice chance → 0 < left → length askers < length c →
     statement ≡ (seen old).state.place → b ≡ get_or c (length askers) d →
-    RunsOn IsPlain (seen old).program (advance (seen old).program (seen old).state b) k (seen new).state →
+    RunsOn (seen old).program (advance (seen old).program (seen old).state b) k (seen new).state →
     k ≤ left - 1 → askers' ≡ askers ++ record { statement = statement; chance = chance } ∷ [] →
     Follows p s limit (take (length askers') c) (seen new).state (left - (k + 1)) askers'
 stepped_chosen seen p s limit c old new left k chance statement b d askers askers' h same asks some within at_place

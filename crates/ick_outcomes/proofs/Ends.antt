@@ -4,10 +4,9 @@ use Rattle.std.proofs.Common.{◌≡◌, ℕ, ◌*◌, ◌^◌, ◌≤◌, inl, 
 use Rattle.std.proofs.Common.{List, [], ◌∷◌, Some, None, refl, ap, sym, ◌∙◌, subst, arith}
 use Rattle.std.specs.List.{Contains}
 use Rattle.ick_code.specs.meaning.State.{State}
-use Rattle.ick_backtrack.specs.Machine.{Program}
-use Rattle.ick_explorer.specs.Runs.{run, IsWhole}
+use Rattle.ick_outcomes.specs.Programs.{Program, run, IsWhole}
 use Rattle.ick_explorer.specs.Order.{IsBelow, IsIncreasing}
-use Rattle.ick_explorer.proofs.RunLaws.{compared}
+use Rattle.ick_outcomes.proofs.ProgramRuns.{compared}
 use Rattle.ick_explorer.proofs.ListingLaws.{not_below_itself, contains-nil, contains-head, contains-tail, contains-cases}
 use Rattle.ick_outcomes.specs.Weights.{whole, amount, shares}
 use Rattle.ick_outcomes.specs.Tallies.{Test, Passes, Tally, lesser, lead, none, join, after, tally, stop_text}

@@ -5,8 +5,8 @@ use Rattle.std.proofs.Common.{◌∷◌, ◌++◌, Some, refl, ap, sym, ◌∙�
 use Rattle.std.proofs.lemmas.Bool.{false≢true}
 use Rattle.std.specs.List.{Contains}
 use Rattle.ick_code.specs.meaning.State.{State, Ending}
-use Rattle.ick_code.specs.meaning.Move.{Asking, plain, choice, ended, ask, advance}
-use Rattle.ick_backtrack.specs.Machine.{Program}
+use Rattle.ick_code.specs.meaning.Move.{Asking, plain, choice, ended}
+use Rattle.ick_outcomes.specs.Programs.{ask, advance, Program}
 use Rattle.ick_backtrack.specs.Asked.{IsGoing}
 use Rattle.ick_outcomes.specs.Tallies.{Test, lesser, join}
 use Rattle.ick_outcomes.specs.Weights.{amount}

@@ -16,23 +16,23 @@ pub appended : (x b y r z : List ℕ) → y ≡ x ++ b → z ≡ y ++ r → z �
 appended x b y r z e f = f ∙ (ap (λ w. w ++ r) e ∙ append_assoc x b r)
 
 -- the lines of outcomes up to an index
-pub lines_start : (exact : Bool) (os : List Outcome) → AreLines exact (take 0 os) []
-lines_start exact os = no_line
+pub lines_start : (exact silent : Bool) (os : List Outcome) → AreLines exact silent (take 0 os) []
+lines_start exact silent os = no_line
 
-pub lines_more : (exact : Bool) (os : List Outcome) (i : ℕ) (o : Outcome) (text new : List ℕ) → i < length os →
-    o ≡ slice_index_or os i o → AreLines exact (take i os) text → AppendsLine exact o text new →
-    AreLines exact (take (i + 1) os) new
-lines_more exact os i o text new lt e h k =
+pub lines_more : (exact silent : Bool) (os : List Outcome) (i : ℕ) (o : Outcome) (text new : List ℕ) → i < length os →
+    o ≡ slice_index_or os i o → AreLines exact silent (take i os) text → AppendsLine exact silent o text new →
+    AreLines exact silent (take (i + 1) os) new
+lines_more exact silent os i o text new lt e h k =
     let next : i + 1 ≡ suc i = omega arith in
     let same = ap (λ z. take z os) next ∙ (take-more os i o lt ∙ ap (λ z. take i os ++ z ∷ []) (sym e)) in
-    subst (λ z. AreLines exact z new) (sym same)
-    (subst (AreLines exact (take i os ++ o ∷ [])) (sym k.same) (one_more (take i os) o text k.line h k.is_line))
+    subst (λ z. AreLines exact silent z new) (sym same)
+    (subst (AreLines exact silent (take i os ++ o ∷ [])) (sym k.same) (one_more (take i os) o text k.line h k.is_line))
 
-pub lines_end : (exact : Bool) (os : List Outcome) (i : ℕ) (lines text : List ℕ) → length os ≤ i →
-    AreLines exact (take i os) lines → text ≡ lines ++ codes "DONE\n" → IsSummaryText exact os text
-lines_end exact os i lines text le h e = record {
+pub lines_end : (exact silent : Bool) (os : List Outcome) (i : ℕ) (lines text : List ℕ) → length os ≤ i →
+    AreLines exact silent (take i os) lines → text ≡ lines ++ codes "DONE\n" → IsSummaryText exact silent os text
+lines_end exact silent os i lines text le h e = record {
   lines = lines;
-  are_lines = subst (λ z. AreLines exact z lines) (take-all os i le) h;
+  are_lines = subst (λ z. AreLines exact silent z lines) (take-all os i le) h;
   same = e;
 }
 

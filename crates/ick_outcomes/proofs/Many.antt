@@ -6,8 +6,8 @@ use Rattle.std.specs.Result.{IsErrAnd}
 use Rattle.std.proofs.Math.Nat.{mul-pos}
 use Rattle.std.proofs.lemmas.List.{map-append}
 use Rattle.ick_code.specs.meaning.State.{State}
-use Rattle.ick_code.specs.meaning.Move.{Asking, plain, choice, ended, ask, advance}
-use Rattle.ick_backtrack.specs.Machine.{Program}
+use Rattle.ick_code.specs.meaning.Move.{Asking, plain, choice, ended}
+use Rattle.ick_outcomes.specs.Programs.{ask, advance, Program}
 use Rattle.ick_outcomes.specs.Tallies.{Tally, tally, tally_at_limit, tally_on}
 use Rattle.ick_outcomes.specs.Summaries.{Row, HasMoreRuns}
 use Rattle.ick_outcomes.specs.Weights.{amount}

@@ -12,7 +12,7 @@ use Rattle.std.proofs.lemmas.List.Sorted.{IsPermutation-map, IsPermutation-sym, 
 use Rattle.std.proofs.lemmas.List.Sorted.{sum_by-IsPermutation, sorted_far, ranks_by}
 use Rattle.std.proofs.lemmas.List.Sums.{sum_by-cons}
 use Rattle.ick_code.specs.meaning.State.{State}
-use Rattle.ick_backtrack.specs.Machine.{Program}
+use Rattle.ick_outcomes.specs.Programs.{Program}
 use Rattle.ick_outcomes.specs.Tallies.{lesser, sooner, Test}
 use Rattle.ick_outcomes.specs.Summaries.{Row, IsSummary}
 use Rattle.ick_outcomes.specs.Accounts.{counted, all_counted, AreDistinct, AreOrdered, Sorts, AreCounted}

@@ -3,11 +3,11 @@ use Prim.Native.Nat.{zero, suc}
 use Rattle.std.proofs.Common.{◌≡◌, ℕ, ◌*◌, ◌^◌, Bool, false, List, [], ◌∷◌, length, refl, ap, sym, ◌∙◌, subst, arith}
 use Rattle.std.proofs.Math.Nat.{pow-succ'}
 use Rattle.ick_code.specs.meaning.State.{State}
-use Rattle.ick_code.specs.meaning.Move.{Asking, plain, choice, ended, ask, advance}
-use Rattle.ick_backtrack.specs.Machine.{Program}
+use Rattle.ick_code.specs.meaning.Move.{Asking, plain, choice, ended}
+use Rattle.ick_outcomes.specs.Programs.{ask, advance, Program, run, IsWhole}
 use Rattle.ick_backtrack.specs.Asked.{Finish, finished, at_limit}
-use Rattle.ick_explorer.specs.Runs.{ends, stays, run, IsEnd, IsWhole}
-use Rattle.ick_explorer.proofs.RunLaws.{limit-going, run-ended, run-plain, run-choice, run-wants, whole-along}
+use Rattle.ick_explorer.specs.Runs.{ends, stays, IsEnd}
+use Rattle.ick_outcomes.proofs.ProgramRuns.{limit-going, run-ended, run-plain, run-choice, run-wants, whole-along}
 use Rattle.ick_outcomes.specs.Weights.{part, share, product, product_on}
 use Rattle.ick_outcomes.proofs.TallyRuns.{share-ended, share-plain, share-choice}
 

@@ -6,10 +6,9 @@ use Rattle.std.proofs.Math.Nat.{pow-succ'}
 use Rattle.std.specs.List.{Contains}
 use Rattle.std.proofs.lemmas.List.{append-nil}
 use Rattle.ick_code.specs.meaning.State.{State}
-use Rattle.ick_code.specs.meaning.Move.{choice, ended, ask, advance}
-use Rattle.ick_backtrack.specs.Machine.{Program}
+use Rattle.ick_code.specs.meaning.Move.{choice, ended}
+use Rattle.ick_outcomes.specs.Programs.{ask, advance, Program, after_steps, IsPlain, RunsOn}
 use Rattle.ick_backtrack.specs.Asked.{finished, at_limit, IsGoing}
-use Rattle.ick_backtrack.specs.Steps.{after_steps, IsPlain, RunsOn}
 use Rattle.ick_explorer.specs.Runs.{ends}
 use Rattle.ick_explorer.specs.Order.{IsBelow}
 use Rattle.ick_outcomes.specs.Tallies.{Test, Tally, lesser, none, join, after, one, tally, stop_text}
@@ -178,7 +177,7 @@ counts-set rs i x r y h o e f = record {
 }
 
 -- the same runs go on after steps without a choice
-pub ahead-steps : (p : Program) (s u : State) (k l a v : ℕ) (w : List Bool) (q : Test) → RunsOn IsPlain p s k u →
+pub ahead-steps : (p : Program) (s u : State) (k l a v : ℕ) (w : List Bool) (q : Test) → RunsOn p s k u →
     after a v w (tally p s (k + l) q) ≡ after a (v * 100 ^ k) w (tally p u l q)
 ahead-steps p s u k l a v w q h =
     up_to k (omega arith) ∙ ap (λ x. after a (v * 100 ^ k) w (tally p x l q)) (sym h.leads)
@@ -250,7 +249,7 @@ ahead-choice q n k h lt =
 
 -- and if nothing is asked, the node after the step replaces it
 pub ahead-runs : (q : Test) (n : Pending) (k : ℕ) (u : State) →
-    RunsOn IsPlain n.at.program n.at.state k u → k ≤ n.left →
+    RunsOn n.at.program n.at.state k u → k ≤ n.left →
     ahead q n ≡ ahead q (record {
       at = record { program = n.at.program; state = u };
       left = n.left - k;

@@ -5,14 +5,15 @@ use Rattle.std.proofs.Common.{List, [], ◌∷◌, ◌++◌, Option, Some, None,
 use Rattle.std.specs.List.{Contains}
 use Rattle.std.proofs.lemmas.List.Elements.{Contains-append_left, Contains-append_right, Contains-append_cases}
 use Rattle.ick_code.specs.meaning.State.{State}
-use Rattle.ick_code.specs.meaning.Move.{Asking, plain, choice, ended, ask, advance}
-use Rattle.ick_backtrack.specs.Machine.{Program}
+use Rattle.ick_code.specs.meaning.Move.{Asking, plain, choice, ended}
+use Rattle.ick_outcomes.specs.Programs.{ask, advance, Program, run}
 use Rattle.ick_backtrack.specs.Asked.{Finish, finished, at_limit, IsGoing}
-use Rattle.ick_explorer.specs.Runs.{ends, stays, stepped, run, IsEnd}
+use Rattle.ick_explorer.specs.Runs.{ends, stays, stepped, IsEnd}
 use Rattle.ick_explorer.specs.Order.{IsBelow, IsIncreasing}
-use Rattle.ick_explorer.proofs.RunLaws.{limit-going, run-ended, run-plain, run-choice, run-wants, whole-along}
+use Rattle.ick_outcomes.proofs.ProgramRuns.{limit-going, run-ended, run-plain, run-choice, run-wants, whole-along}
+use Rattle.ick_outcomes.proofs.ProgramRuns.{whole-back}
 use Rattle.ick_explorer.proofs.ListingLaws.{contains-nil, contains-head, contains-cases}
-use Rattle.ick_explorer.proofs.Existence.{contains-map, increasing-append, increasing-map, map-contains, whole-back}
+use Rattle.ick_explorer.proofs.Existence.{contains-map, increasing-append, increasing-map, map-contains}
 use Rattle.ick_outcomes.specs.Weights.{part, share_on, share, shares}
 use Rattle.ick_outcomes.specs.Tallies.{Test, Passes, Tally, sooner, lead, join, push, pass, one, tally}
 use Rattle.ick_outcomes.specs.Tallies.{tally_at_limit, tally_on, stop_text}

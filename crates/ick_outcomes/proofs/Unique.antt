@@ -4,7 +4,7 @@ use Rattle.std.proofs.Common.{◌≡◌, ℕ, ◌*◌, ◌/◌, ◌^◌, ◌<◌
 use Rattle.std.proofs.Math.Nat.{pow-succ', mul-div_cancel}
 use Rattle.std.specs.List.{Contains}
 use Rattle.ick_code.specs.meaning.State.{State}
-use Rattle.ick_backtrack.specs.Machine.{Program}
+use Rattle.ick_outcomes.specs.Programs.{Program}
 use Rattle.ick_explorer.proofs.ListingLaws.{increasing_unique, lists_unique}
 use Rattle.ick_outcomes.specs.Weights.{whole, shares}
 use Rattle.ick_outcomes.specs.Summaries.{Row, IsRow, IsSummary}

@@ -1,24 +1,23 @@
 -- Proves the lemmas in the form in which functions use them.
 use Prim.Native.Nat.{zero, suc}
 use Rattle.std.proofs.Common.{◌⊎◌, take}
-use Rattle.std.proofs.Common.{◌≡◌, inl, inr, ℕ, ◌+◌, ◌*◌, ◌-◌, ◌^◌, ◌<◌, ◌≤◌, Bool, true, false, length, List, []}
+use Rattle.std.proofs.Common.{◌≡◌, inl, inr, ℕ, ◌+◌, ◌*◌, ◌-◌, ◌^◌, ◌<◌, ◌≤◌, max, Bool, true, false, length, List, []}
 use Rattle.std.proofs.Common.{◌∷◌, ◌++◌, Option, Some, None}
 use Rattle.std.proofs.Common.{refl, ap, sym, ◌∙◌, subst, arith, slice_index_or, slice_set}
 use Rattle.std.proofs.Common.{Result, Ok, Err, OnOk}
 use Rattle.std.specs.List.{Contains}
 use Rattle.std.proofs.lemmas.List.{map-append}
 use Rattle.ick_code.specs.meaning.State.{State}
-use Rattle.ick_code.specs.meaning.Move.{Asking, plain, choice, ended, ask, advance}
-use Rattle.ick_backtrack.specs.Machine.{Program}
+use Rattle.ick_code.specs.meaning.Move.{Asking, plain, choice, ended}
+use Rattle.ick_outcomes.specs.Programs.{ask, advance, Program, after_steps, IsPlain, RunsOn}
 use Rattle.ick_backtrack.specs.Asked.{Finish, finished, at_limit, IsGoing, asked_at_end}
-use Rattle.ick_backtrack.specs.Steps.{after_steps, IsPlain, RunsOn}
 use Rattle.ick_explorer.specs.Order.{IsBelow}
 use Rattle.ick_outcomes.specs.Tallies.{lesser, join, after, tally}
 use Rattle.ick_outcomes.specs.Weights.{amount, part}
 use Rattle.ick_outcomes.specs.Fractions.{top_of, IsSum, IsPart}
 use Rattle.ick_outcomes.specs.declared.fraction.Fraction.{Fraction}
 use Rattle.ick_outcomes.proofs.Amounts.{amount-end, amount-run, amount-plus, amount-part}
-use Rattle.ick_code.proofs.AskLaws.{chance_between}
+use Rattle.ick_outcomes.proofs.ProgramRuns.{chance_between}
 use Rattle.ick_outcomes.specs.Summaries.{Row}
 use Rattle.ick_outcomes.specs.Accounts.{Configuration, Pending, ahead, AreApart, Admits, CanMerge, Counts}
 use Rattle.ick_outcomes.specs.Accounts.{SameRow, Settles}
@@ -134,7 +133,7 @@ going_on p s h = subst IsGoing (sym h) tt
 pub is_plain : (p : Program) (s : State) → (let x : Option Asking = Some plain in x) ≡ Some (ask p s) → IsPlain p s
 is_plain p s e = let z : ask p s ≡ plain = cc in z
 
-pub one_step : (p : Program) (s u : State) → IsPlain p s → u ≡ advance p s false → RunsOn IsPlain p s 1 u
+pub one_step : (p : Program) (s u : State) → IsPlain p s → u ≡ advance p s false → RunsOn p s 1 u
 one_step p s u h e = record {
   leads = e;
   on = λ i lt. let z : i ≡ 0 = omega (arith, lt) in subst (λ k. IsPlain p (after_steps p s k)) (sym z) h;
@@ -145,8 +144,8 @@ after-first : (p : Program) (s : State) (k : ℕ) → after_steps p s (suc k) �
 after-first p s zero = refl
 after-first p s (suc k) = ap (λ t. advance p t false) (after-first p s k)
 
-pub first_step : (p : Program) (s u : State) (k : ℕ) → IsPlain p s → RunsOn IsPlain p (advance p s false) k u →
-    RunsOn IsPlain p s (suc k) u
+pub first_step : (p : Program) (s u : State) (k : ℕ) → IsPlain p s → RunsOn p (advance p s false) k u →
+    RunsOn p s (suc k) u
 first_step p s u k h r = record { leads = r.leads ∙ sym (after-first p s k); on = plain_at }
   where
     plain_at : (i : ℕ) → i < suc k → IsPlain p (after_steps p s i)
@@ -197,7 +196,7 @@ makes_pass n m ns ns' rs rs' g lt h =
     record { settled = s.settled; apart = s.apart; fewer = λ le b. h.below n.left lt b }
 
 pub goes_on_runs : (n m : Pending) (k : ℕ) →
-    RunsOn IsPlain n.at.program n.at.state k m.at.state → m.at.program ≡ n.at.program →
+    RunsOn n.at.program n.at.state k m.at.state → m.at.program ≡ n.at.program →
     k ≤ n.left → m.left ≡ n.left - k → m.count ≡ n.count → m.weight ≡ n.weight * 100 ^ k → m.choices ≡ n.choices →
     GoesOn n m
 goes_on_runs n m k h p le s c v w = record {
@@ -287,7 +286,7 @@ moved_on f k l le lt =
 -- the node after a choice, and after steps that ask nothing
 pub chosen_goes_on : (n m : Pending) (chance k : ℕ) (b : Bool) (f r : Fraction) → 0 < n.left →
     n.left + f.places ≤ 4294967295 → IsPart (part chance b) f r → n.weight ≡ amount (top_of f) f.places n.left →
-    RunsOn IsPlain n.at.program (advance n.at.program n.at.state b) k m.at.state →
+    RunsOn n.at.program (advance n.at.program n.at.state b) k m.at.state →
     m.at.program ≡ n.at.program → k ≤ n.left - 1 → m.left ≡ n.left - 1 - k → m.count ≡ n.count →
     m.weight ≡ amount (top_of r) r.places (n.left - 1 - k) → m.choices ≡ n.choices ++ b ∷ [] →
     GoesOn (chosen chance n b) m
@@ -327,22 +326,22 @@ pub most_none : IsMostLeft 0 []
 most_none = record { highest = tt; reached = λ m h. omega arith }
 
 pub most_more : {S : Type 0} (seen : S → Configuration) (ns : List (Node S)) (i most r : ℕ) (n : Node S) → i < length ns →
-    n ≡ slice_index_or ns i n → IsMostLeft most (nodes_of seen (take i ns)) → most ≤ r → n.left ≤ r →
-    (r ≡ most) ⊎ (r ≡ n.left) → IsMostLeft r (nodes_of seen (take (i + 1) ns))
-most_more seen ns i most r n lt e h u v w =
+    n ≡ slice_index_or ns i n → IsMostLeft most (nodes_of seen (take i ns)) → r ≡ max most n.left →
+    IsMostLeft r (nodes_of seen (take (i + 1) ns))
+most_more seen ns i most r n lt e h greater =
     let next : i + 1 ≡ suc i = omega arith in
     let same = ap (λ z. take z ns) next ∙ (take-more ns i n lt ∙ ap (λ z. take i ns ++ z ∷ []) (sym e)) in
     let nodes = nodes_of seen (take i ns) in
     subst (λ z. IsMostLeft r z)
     (sym (ap (nodes_of seen) same ∙ map-append (pending_of seen) (take i ns) (n ∷ [])))
     (record {
-      highest = below-push (suc r) nodes (pending_of seen n) (omega (arith, v))
-          (below-more (suc most) (suc r) nodes (omega (arith, u)) h.highest);
+      highest = below-push (suc r) nodes (pending_of seen n) (omega (arith, greater))
+          (below-more (suc most) (suc r) nodes (omega (arith, greater)) h.highest);
       reached = λ m k.
           let b = below-last (suc m) nodes (pending_of seen n) k in
           let c = h.reached m b.0 in
           let d = b.1 in
-          elim w [ inl x ↦ omega (arith, x, c) | inr x ↦ omega (arith, x, d) ];
+          omega (arith, greater, c, d);
     })
 
 pub counts_end : {S : Type 0} (seen : S → Configuration) (limit : ℕ) (p : Configuration) (ns : List (Node S)) (rs : List Row) (m : ℕ) →

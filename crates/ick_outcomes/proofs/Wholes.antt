@@ -3,13 +3,12 @@ use Prim.Native.Nat.{zero, suc}
 use Rattle.std.proofs.Common.{◌≡◌, ℕ, ◌+◌, ◌*◌, ◌-◌, ◌^◌, ◌≤◌, Bool, true, false, List, [], ◌∷◌}
 use Rattle.std.proofs.Common.{refl, ap, sym, ◌∙◌, arith}
 use Rattle.ick_code.specs.meaning.State.{State}
-use Rattle.ick_code.specs.meaning.Move.{Asking, plain, choice, ended, ask, advance}
-use Rattle.ick_code.proofs.AskLaws.{chance_between}
-use Rattle.ick_backtrack.specs.Machine.{Program}
+use Rattle.ick_code.specs.meaning.Move.{Asking, plain, choice, ended}
+use Rattle.ick_outcomes.specs.Programs.{ask, advance, Program, IsWhole}
+use Rattle.ick_outcomes.proofs.ProgramRuns.{chance_between}
 use Rattle.ick_outcomes.specs.Weights.{whole, amount}
 use Rattle.ick_outcomes.specs.Tallies.{Passes, Tally, tally, tally_at_limit, tally_on}
 use Rattle.ick_outcomes.specs.Summaries.{Row, weight_of, count_of, CountsAll}
-use Rattle.ick_explorer.specs.Runs.{IsWhole}
 use Rattle.ick_outcomes.proofs.TallyRuns.{tallied}
 use Rattle.ick_outcomes.specs.Accounts.{all_counted, any_outcome, AreCounted, Sorts}
 use Rattle.ick_outcomes.proofs.Amounts.{amount-end}
@@ -68,8 +67,8 @@ all_runs p s limit =
       listing = u.0;
       is_listing = record {
         increasing = u.1.increasing;
-        sound = λ c m. ((u.1.sound c m).whole, tt);
-        complete = λ c w a. u.1.complete c (any-passes p s limit c w);
+        sound = λ c m. (u.1.sound c m).whole;
+        complete = λ c w. u.1.complete c (any-passes p s limit c w);
       };
       counted = u.1.counted;
     }

@@ -2,10 +2,10 @@
 use Rattle.std.specs.Prelude.{◌≡◌, ◌⊎◌, ℕ, suc, ◌*◌, ◌^◌, ◌-◌, ◌<◌, ◌≤◌, Bool, true, false, List, [], ◌∷◌, ◌++◌, Some}
 use Rattle.std.specs.List.{Contains}
 use Rattle.ick_code.specs.meaning.State.{State}
-use Rattle.ick_code.specs.meaning.Move.{ask, advance, choice}
+use Rattle.ick_code.specs.meaning.Move.{choice}
+use Rattle.ick_outcomes.specs.Programs.{ask, advance, Program}
 use Rattle.ick_explorer.specs.Lines.{end_text}
 use Rattle.ick_explorer.specs.Order.{IsBelow}
-use Rattle.ick_backtrack.specs.Machine.{Program}
 use Rattle.ick_backtrack.specs.Asked.{Finish}
 use Rattle.ick_outcomes.specs.Tallies.{Test, Tally, lesser, none, join, after, tally}
 use Rattle.ick_outcomes.specs.Weights.{amount, part}

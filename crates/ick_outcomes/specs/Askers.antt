@@ -3,12 +3,12 @@ use Prim.Native.Nat.{zero, suc}
 use Rattle.std.specs.Prelude.{◌≡◌, ◌<◌, ℕ, Bool, false, List, [], ◌∷◌, ◌++◌, codes, decimal, take}
 use Rattle.std.specs.List.{flat_map}
 use Rattle.ick_code.specs.meaning.State.{State}
-use Rattle.ick_code.specs.meaning.Move.{Asking, plain, choice, ended, ask, advance}
+use Rattle.ick_code.specs.meaning.Move.{Asking, plain, choice, ended}
+use Rattle.ick_outcomes.specs.Programs.{ask, advance, Program, run, IsWhole}
 use Rattle.ick_backtrack.specs.Asked.{Finish, finish_of}
-use Rattle.ick_backtrack.specs.Machine.{Program}
 use Rattle.ick_backtrack.specs.declared.asking.Ask.{Ask}
 use Rattle.ick_backtrack.specs.declared.asking.Ask.TheVariants.{Plain, Choice, Ended}
-use Rattle.ick_explorer.specs.Runs.{ends, run, stays, IsWhole}
+use Rattle.ick_explorer.specs.Runs.{ends, stays}
 use Rattle.ick_outcomes.specs.declared.following.AskedBy.{AskedBy}
 
 -- an end asks nothing more, a plain step asks nothing, and a choice is asked by the statement that is met

@@ -13,7 +13,7 @@ pub record AreTexts (exact : Bool) (o : Outcome) (count weight output : List ℕ
   pub written : output ≡ quoted o.output.items
 
 -- the line of an outcome was appended
-pub record AppendsLine (exact : Bool) (o : Outcome) (old new : List ℕ) : Type 0 where
+pub record AppendsLine (exact silent : Bool) (o : Outcome) (old new : List ℕ) : Type 0 where
   pub line : List ℕ
-  pub is_line : IsLine exact o line
+  pub is_line : IsLine exact silent o line
   pub same : new ≡ old ++ line

@@ -1,3 +1,4 @@
+pub mod Programs
 pub mod Weights
 pub mod Tallies
 pub mod Summaries

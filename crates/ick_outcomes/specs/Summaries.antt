@@ -2,10 +2,8 @@
 use Rattle.std.specs.Prelude.{◌≡◌, ℕ, ◌+◌, ◌*◌, ◌^◌, ◌<◌, suc, Bool, List, [], ◌∷◌, length, map, None}
 use Rattle.std.specs.List.{Contains}
 use Rattle.ick_code.specs.meaning.State.{State}
-use Rattle.ick_backtrack.specs.Machine.{Program}
-use Rattle.ick_explorer.specs.Runs.{run, IsWhole}
+use Rattle.ick_outcomes.specs.Programs.{Program, run, IsWhole, IsListing}
 use Rattle.ick_explorer.specs.Order.{IsIncreasing}
-use Rattle.ick_explorer.specs.Listings.{IsListing}
 use Rattle.ick_outcomes.specs.Tallies.{stop_text}
 use Rattle.ick_outcomes.specs.Weights.{shares, whole}
 
@@ -57,7 +55,7 @@ count_of (r ∷ rs) = r.count + count_of rs
 -- n is the length of the listing of all runs
 pub record CountsAll (p : Program) (s : State) (limit n : ℕ) : Type 0 where
   pub listing : List (List Bool)
-  pub is_listing : IsListing p s limit None listing
+  pub is_listing : IsListing p s limit listing
   pub counted : n ≡ length listing
 
 -- the program has more runs than so many

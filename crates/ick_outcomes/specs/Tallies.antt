@@ -2,10 +2,10 @@
 use Prim.Native.Nat.{zero, suc}
 use Rattle.std.specs.Prelude.{◌≡◌, ℕ, ◌+◌, ◌*◌, ◌^◌, Bool, true, false, List, [], ◌∷◌, ◌++◌, Option, Some, None}
 use Rattle.ick_code.specs.meaning.State.{State}
-use Rattle.ick_code.specs.meaning.Move.{Asking, plain, choice, ended, ask, advance}
-use Rattle.ick_backtrack.specs.Machine.{Program}
+use Rattle.ick_code.specs.meaning.Move.{Asking, plain, choice, ended}
+use Rattle.ick_outcomes.specs.Programs.{ask, advance, Program, run, IsWhole}
 use Rattle.ick_backtrack.specs.Asked.{finished, at_limit}
-use Rattle.ick_explorer.specs.Runs.{Stop, ends, wants, run, IsWhole}
+use Rattle.ick_explorer.specs.Runs.{Stop, ends, wants}
 use Rattle.ick_explorer.specs.Lines.{end_text}
 use Rattle.ick_outcomes.specs.Weights.{part}
 

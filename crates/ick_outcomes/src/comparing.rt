@@ -73,9 +73,9 @@ pub(crate) fn compare(one: &[bool], other: &[bool]) -> Order
     Order::Short
 }
 
-/// Returns whether the first list is the earlier one, which is kept.
+/// Returns whether the first list is earlier than the other list, or a prefix of it.
 #[tactic(auto, using(crate::proofs::Uses::lesser_kept, crate::proofs::Uses::lesser_given))]
-pub(crate) fn keeps(one: &[bool], other: &[bool]) -> bool
+pub(crate) fn is_earlier_or_prefix(one: &[bool], other: &[bool]) -> bool
     ensures kept { result ≡ true → lesser one.now other.now ≡ one.now }
     ensures given { result ≡ false → lesser one.now other.now ≡ other.now }
 {

@@ -3,11 +3,10 @@
 ghost use Rattle.std.specs.Prelude.{◌≡◌, ◌++◌, ◌<◌, ◌≤◌, codes, length, None, Ok};
 ghost use Rattle.std.specs.Prelude.{IfOk, IfSome, OnOk};
 ghost use Rattle.ick_code.specs.meaning.State.{State};
-ghost use Rattle.ick_code.specs.meaning.Move.{ask, choice, plain};
+ghost use Rattle.ick_code.specs.meaning.Move.{choice, plain};
+ghost use Rattle.ick_outcomes.specs.Programs.{ask, Program, IsWhole};
 ghost use Rattle.ick_backtrack.specs.Asked.{finish_of};
-ghost use Rattle.ick_backtrack.specs.Machine.{Program};
 ghost use Rattle.ick_explorer.specs.Lines.{line_of};
-ghost use Rattle.ick_explorer.specs.Runs.{IsWhole};
 ghost use Rattle.ick_outcomes.specs.Askers.{AsksWithin, IsFollowed, asked_line, asker_text};
 
 use crate::outcome::end_word;
@@ -30,7 +29,7 @@ pub struct AskedBy {
 /// A run that was followed to its end: its last state, its end, and the statements that asked for
 /// its choices.
 #[derive(Drop)]
-pub struct Followed<'c, S: Drop> {
+pub struct FollowedRun<'c, S: Drop> {
     pub state: S,
     pub end: End<'c>,
     pub asked: Vec<AskedBy>,
@@ -81,7 +80,7 @@ pub fn follow<'c, P: States<'c>>(
     state: P::State,
     limit: u32,
     choices: &[bool],
-) -> Result<Option<Followed<'c, P::State>>, NoMemory>
+) -> Result<Option<FollowedRun<'c, P::State>>, NoMemory>
     requires tools { P.serves program.now tools.old }
     requires state { P.suits program.now state }
     ensures followed { IfOk result (λ found. IfSome found (λ run.
@@ -123,7 +122,7 @@ fn whole<'c, S: Drop>(
     end: End<'c>,
     asked: Vec<AskedBy>,
     choices: &[bool],
-) -> Option<Followed<'c, S>>
+) -> Option<FollowedRun<'c, S>>
     ensures some { IfSome result (λ run. (run.state ≡ state) × (run.end ≡ end.entry)
         × (run.asked.items ≡ asked.items) × (length choices.now ≤ length asked.items)) }
     ensures none { result ≡ None → length asked.items < length choices.now }
@@ -131,7 +130,7 @@ fn whole<'c, S: Drop>(
     if asked.len() < choices.len() {
         return None;
     }
-    Some(Followed { state, end, asked })
+    Some(FollowedRun { state, end, asked })
 }
 
 /// Returns the line of a run that was followed, as a listing shows it, without its line end. The
@@ -140,7 +139,7 @@ fn whole<'c, S: Drop>(
 pub fn run_line<'c, P: States<'c>>(
     alloc: Global,
     program: &P,
-    followed: &Followed<'c, P::State>,
+    followed: &FollowedRun<'c, P::State>,
     choices: &[bool],
 ) -> Result<Vec<u8>, NoMemory>
     ensures { IfOk result (λ line. line.items ++ codes "\n" ≡ line_of choices.now

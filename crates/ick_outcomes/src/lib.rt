@@ -40,10 +40,10 @@ mod text;
 
 pub use cut::{cut_text, weight_text};
 pub use errors::OutcomesError;
-pub use following::{AskedBy, Followed, asked_text, follow, run_line};
+pub use following::{AskedBy, FollowedRun, asked_text, follow, run_line};
 pub use fraction::Fraction;
 pub use hints::Hints;
-pub use laws::{one_summary, weights_are_products};
+pub use laws::{one_summary, runs_are_heard, weights_are_products};
 pub use lines::{summary_text, total_text};
 pub use outcome::Outcome;
 pub use sorting::outcomes;

@@ -1,8 +1,9 @@
 //! Builds the text of a summary.
 
-ghost use Rattle.std.specs.Prelude.{◌≡◌, Bool, IfOk, IfSome, OnOk};
+ghost use Rattle.std.specs.Prelude.{◌≡◌, ◌++◌, ℕ, Bool, List, IfOk, IfSome, OnOk};
+ghost use Rattle.ick_bits.specs.Quoted.{quoted as quoted_text};
 ghost use Rattle.ick_outcomes.specs.Buffered.{AppendsLine, AreTexts};
-ghost use Rattle.ick_outcomes.specs.Lines.{IsSummaryText, IsTotal};
+ghost use Rattle.ick_outcomes.specs.Lines.{IsSummaryText, IsTotal, output_text};
 ghost use Rattle.ick_numbers.specs.Values.{natural};
 ghost use Rattle.ick_outcomes.specs.Seen.{rows_of};
 ghost use Rattle.ick_outcomes.specs.Summaries.{count_of};
@@ -70,13 +71,31 @@ fn put_texts(
     }
 }
 
-/// Appends the line of an outcome: `COUNT WEIGHT FIRST END OUTPUT`. The texts must be those of the
-/// outcome.
-fn append_line(out: &mut Vec<u8>, outcome: &Outcome, texts: &Texts) -> Result<(), NoMemory>
+/// Appends a blank and an output that is quoted already, or nothing if the output is left out.
+fn append_output(out: &mut Vec<u8>, quoted: &[u8], silent: bool) -> Result<(), NoMemory>
+    ensures { OnOk result ((output : List ℕ) → quoted.now ≡ quoted_text output →
+        out.new.items ≡ out.old.items ++ output_text silent output) }
+{
+    if silent {
+        return Ok(());
+    }
+    out.push(b' ')?;
+    out.extend_from_slice(quoted)?;
+    Ok(())
+}
+
+/// Appends the line of an outcome: `COUNT WEIGHT FIRST END OUTPUT`, without OUTPUT if the program
+/// is silent. The texts must be those of the outcome.
+fn append_line(
+    out: &mut Vec<u8>,
+    outcome: &Outcome,
+    texts: &Texts,
+    silent: bool,
+) -> Result<(), NoMemory>
     ensures { OnOk result ((exact : Bool) →
         AreTexts exact outcome.now texts.now.count.text.items texts.now.weight.text.items
         texts.now.output.items →
-        AppendsLine exact outcome.now out.old.items out.new.items) }
+        AppendsLine exact silent outcome.now out.old.items out.new.items) }
 {
     out.extend_from_slice(&texts.count.text)?;
     out.push(b' ')?;
@@ -85,18 +104,22 @@ fn append_line(out: &mut Vec<u8>, outcome: &Outcome, texts: &Texts) -> Result<()
     append_choices(out, &outcome.first)?;
     out.push(b' ')?;
     out.extend_from_slice(&outcome.end)?;
-    out.push(b' ')?;
-    out.extend_from_slice(&texts.output)?;
+    append_output(out, &texts.output, silent)?;
     out.push(b'\n')?;
     Ok(())
 }
 
 /// Returns the text of a summary: a line `COUNT WEIGHT FIRST END OUTPUT` for each outcome, and then
-/// `DONE`. Choices, end and output are as a listing shows them. Weights are exact, or cut. The only
-/// refusal is out of memory.
+/// `DONE`. Choices, end and output are as a listing shows them. OUTPUT is left out if the program
+/// is silent. Weights are exact, or cut. The only refusal is out of memory.
 #[tactic(auto, using(crate::proofs::LineLaws::all_lines))]
-pub fn summary_text(outcomes: &[Outcome], exact: bool, alloc: Global) -> Result<Vec<u8>, NoMemory>
-    ensures { IfOk result (λ text. IsSummaryText exact outcomes.now text.items) }
+pub fn summary_text(
+    outcomes: &[Outcome],
+    exact: bool,
+    silent: bool,
+    alloc: Global,
+) -> Result<Vec<u8>, NoMemory>
+    ensures { IfOk result (λ text. IsSummaryText exact silent outcomes.now text.items) }
 {
     let mut text = Vec::new(alloc);
     let mut texts = Texts {
@@ -107,7 +130,7 @@ pub fn summary_text(outcomes: &[Outcome], exact: bool, alloc: Global) -> Result<
     let mut last = None;
     'outcomes: for outcome in outcomes {
         put_texts(&mut texts, last, outcome, exact)?;
-        append_line(&mut text, outcome, &texts)?;
+        append_line(&mut text, outcome, &texts, silent)?;
         last = Some(outcome);
     }
     text.extend_from_slice(b"DONE\n")?;

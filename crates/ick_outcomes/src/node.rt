@@ -2,9 +2,8 @@
 
 ghost use Rattle.std.specs.Prelude.{◌≡◌, ◌+◌, ◌*◌, ◌-◌, ◌^◌, ◌<◌, ◌≤◌, true, false, [], length};
 ghost use Rattle.std.specs.Prelude.{slice_index_or, OnOk, IfOk, IfSome, IfNone};
-ghost use Rattle.ick_code.specs.meaning.Move.{ask};
+ghost use Rattle.ick_outcomes.specs.Programs.{ask, IsPlain};
 ghost use Rattle.ick_backtrack.specs.Asked.{IsGoing, finish_of};
-ghost use Rattle.ick_backtrack.specs.Steps.{IsPlain};
 ghost use Rattle.ick_outcomes.specs.Accounts.{Admits, CanMerge, Counts, Configuration, Settles};
 ghost use Rattle.ick_outcomes.specs.Accounts.{Makes};
 ghost use Rattle.ick_outcomes.specs.Accounts.{GoesOn, IsChoosing, AreOver, chosen, ended_row};

@@ -12,7 +12,7 @@ ghost use Rattle.ick_outcomes.specs.Seen.{row_of, rows_of};
 ghost use Rattle.ick_outcomes.specs.Summaries.{Row};
 ghost use Rattle.ick_outcomes.specs.Tallies.{lesser};
 
-use crate::comparing::keeps;
+use crate::comparing::is_earlier_or_prefix;
 use crate::fraction::Fraction;
 use crate::index::row_key;
 use ick_backtrack::End;
@@ -67,7 +67,7 @@ pub(crate) fn add_runs(alloc: Global, row: &mut Outcome, more: Outcome) -> Resul
 {
     row.count = more.count.plus(&row.count)?;
     row.weight = more.weight.plus(&row.weight, alloc)?;
-    if !keeps(&row.first, &more.first) {
+    if !is_earlier_or_prefix(&row.first, &more.first) {
         row.first = more.first;
     }
     Ok(())

@@ -1,6 +1,6 @@
 //! Searches all outcomes of a program.
 
-ghost use Rattle.std.specs.Prelude.{◌≡◌, ◌+◌, ◌<◌, ◌≤◌, ◌⊎◌, [], true, length, IfOk, Err};
+ghost use Rattle.std.specs.Prelude.{◌≡◌, ◌+◌, ◌<◌, ◌≤◌, [], true, length, IfOk, Err};
 ghost use Rattle.ick_outcomes.specs.Accounts.{Configuration, SettlesAll, AreCounted, IsMostLeft};
 ghost use Rattle.ick_outcomes.specs.Accounts.{runs_in};
 ghost use Rattle.ick_outcomes.specs.Summaries.{HasMoreRuns};
@@ -47,26 +47,14 @@ fn is_done<S: Drop>(waiting: &Waiting<S>) -> bool
     waiting.nodes.is_empty()
 }
 
-/// Returns the greater of two numbers.
-fn higher(one: u32, other: u32) -> u32
-    ensures one { one ≤ result }
-    ensures other { other ≤ result }
-    ensures either { (result ≡ one) ⊎ (result ≡ other) }
-{
-    if one < other {
-        return other;
-    }
-    one
-}
-
 /// Returns the greatest number of steps that a node has left.
 #[tactic(auto, using(crate::proofs::Uses::most_none, crate::proofs::Uses::most_more))]
 fn most_left<S: Drop>(nodes: &[Node<S>]) -> u32
     ensures { (seen : S → Configuration) → IsMostLeft result (nodes_of seen nodes.now) }
 {
-    let mut most = 0;
+    let mut most = 0u32;
     'nodes: for node in nodes {
-        most = higher(most, node.left);
+        most = most.max(node.left);
     }
     most
 }

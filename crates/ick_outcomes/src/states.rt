@@ -1,10 +1,8 @@
 //! Programs whose states can be copied and compared.
 
 ghost use Rattle.std.specs.Prelude.{◌≡◌, ◌≤◌, ℕ, true, Some, IfOk};
-ghost use Rattle.ick_code.specs.meaning.Move.{ask, advance};
+ghost use Rattle.ick_outcomes.specs.Programs.{ask, advance, Program, RunsOn};
 ghost use Rattle.ick_backtrack.specs.Asked.{asked_of, IsGoing};
-ghost use Rattle.ick_backtrack.specs.Machine.{Program};
-ghost use Rattle.ick_backtrack.specs.Steps.{IsPlain, RunsOn};
 ghost use Rattle.ick_outcomes.specs.Accounts.{Configuration};
 
 use ick_backtrack::Ask;
@@ -34,6 +32,10 @@ pub trait States<'c>: Drop {
     ghost key: { Self → Self.State → ℕ };
 
     ghost size: { Self → Self.State → ℕ };
+
+    /// Returns whether the output of runs is left out.
+    fn is_silent(&self) -> bool
+        ensures { result ≡ (text self.now).silent };
 
     /// Returns what the run has written so far.
     fn output<'s>(&self, state: &'s Self::State) -> &'s [u8]
@@ -68,7 +70,7 @@ pub trait States<'c>: Drop {
         requires tools { serves self.now tools.old }
         requires state { suits self.now state }
         requires going { IsGoing (ask (seen self.now state).program (seen self.now state).state) }
-        ensures runs { IfOk result (λ p. RunsOn IsPlain (seen self.now state).program
+        ensures runs { IfOk result (λ p. RunsOn (seen self.now state).program
             (advance (seen self.now state).program (seen self.now state).state done)
             p.1 (seen self.now p.0).state) }
         ensures program { IfOk result (λ p. (seen self.now p.0).program
@@ -89,7 +91,7 @@ pub trait States<'c>: Drop {
         requires state { suits self.now state.now }
         requires going { IsGoing (ask (seen self.now state.now).program
             (seen self.now state.now).state) }
-        ensures runs { IfOk result (λ p. RunsOn IsPlain (seen self.now state.now).program
+        ensures runs { IfOk result (λ p. RunsOn (seen self.now state.now).program
             (advance (seen self.now state.now).program (seen self.now state.now).state done)
             p.1 (seen self.now p.0).state) }
         ensures program { IfOk result (λ p. (seen self.now p.0).program

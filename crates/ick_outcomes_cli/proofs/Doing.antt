@@ -60,7 +60,7 @@ outcomes_failed old new told e e' errs errs' code text status (many_states same)
     four_by told 4 _ e e' errs errs' code done refl
 outcomes_failed old new told e e' errs errs' code text status (long_listing same) done bad =
     four_by told 4 _ e e' errs errs' code done refl
-outcomes_failed old new told e e' errs errs' code text status (unfinished most line is same) done bad =
+outcomes_failed old new told e e' errs errs' code text status (unfinished line is same) done bad =
     four_by told 4 _ e e' errs errs' code done refl
 
 -- a job is done whose end was reported

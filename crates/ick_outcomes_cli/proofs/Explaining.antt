@@ -19,7 +19,9 @@ use Rattle.ick_explorer.specs.ChoiceTexts.{IsTextOf}
 use Rattle.ick_explorer.specs.Laws.{AreLimited, ReadsBack}
 use Rattle.ick_explorer.specs.Lines.{compiled_at, line_of}
 use Rattle.ick_explorer.specs.Lines.{run_line as line_of_run}
-use Rattle.ick_explorer.specs.Runs.{IsWhole, Stop, run}
+use Rattle.ick_explorer.specs.Runs.{IsEnd, IsWhole, Stop, run}
+use Rattle.ick_outcomes.specs.Programs.{IsWhole as IsWholeTold, run as run_told, spoken}
+use Rattle.ick_outcomes.proofs.Hushing.{run_heard}
 use Rattle.ick_outcomes.specs.Accounts.{Configuration}
 use Rattle.ick_outcomes.specs.Askers.{IsFollowed, asked, asked_line}
 use Rattle.ick_outcomes.specs.declared.following.AskedBy.{AskedBy}
@@ -126,9 +128,9 @@ goes_on_last p s limit listing rest line behind text h is whole last = λ more e
 
 pub goes_on_run : (p : Program) (s : State) (limit : ℕ) (listing rest line behind text : List ℕ) (c : List Bool)
     → GoesOn p s limit listing rest text → LacksByte 10 line → line ++ (10 ∷ behind) ≡ rest → (IsLast line → ⊥)
-    → IsRunLine p s limit line c → GoesOn p s limit listing behind (text ++ asked_line (asked p s limit c))
+    → IsRunLine p s limit line c → GoesOn p s limit listing behind (text ++ asked_line (asked (spoken p) s limit c))
 goes_on_run p s limit listing rest line behind text c h is whole other run = λ more e.
-    let new = asked_line (asked p s limit c) in
+    let new = asked_line (asked (spoken p) s limit c) in
     subst (Explains p s limit listing) (sym (append_assoc text new more))
     (h (new ++ more)
     (subst (λ l. Explains p s limit l (new ++ more)) whole (run_line line behind more c is other run e)))
@@ -183,39 +185,66 @@ refused_so {T} {E} r P h e =
 
 -- a run that was followed from a configuration, and its line
 abbrev pub configuration_at : Program → State → Configuration
-configuration_at p s = record { program = p; state = s }
+configuration_at p s = record { program = spoken p; state = s }
 
-pub configuration_is : (code code' : Code) (input input' : List ℕ) (q : Configuration)
-    → q ≡ configuration_at (code_program code) (first_state (code_program code) input) → code ≡ code' → input ≡ input'
-    → q ≡ configuration_at (code_program code') (first_state (code_program code') input')
-configuration_is code code' input input' q is same same' =
-    is ∙ (ap (λ (x : Code). configuration_at (code_program x) (first_state (code_program x) input)) same
-    ∙ ap (λ (t : List ℕ). configuration_at (code_program code') (first_state (code_program code') t)) same')
+pub spoken_at : (x : Configuration) → x.program.silent ≡ false → x ≡ configuration_at x.program.statements x.state
+spoken_at x is = λ i. record { program = record { statements = x.program.statements; silent = is i }; state = x.state }
+
+abbrev first_of : Code → List ℕ → Bool → Configuration
+first_of code input silent = record {
+  program = record { statements = code_program code; silent = silent };
+  state = first_state (code_program code) input;
+}
+
+pub configuration_is : (code code' : Code) (input input' : List ℕ) (silent silent' : Bool) (q : Configuration)
+    → q ≡ first_of code input silent → code ≡ code' → input ≡ input' → silent ≡ silent'
+    → q ≡ first_of code' input' silent'
+configuration_is code code' input input' silent silent' q is same same' same'' =
+    is ∙ (λ i. first_of (same i) (same' i) (same'' i))
+
+-- the runs of a program with its output are those of the explorer
+spoken_run : (p : Program) (s : State) (limit : ℕ) (c : List Bool) → run_told (spoken p) s limit c ≡ run p s limit c
+spoken_run p s limit c = run_heard (spoken p) s limit c
+
+pub whole_of : (p : Program) (s : State) (limit : ℕ) (c : List Bool) → IsWholeTold (spoken p) s limit c
+    → IsWhole p s limit c
+whole_of p s limit c w = record {
+  at_end = subst (λ r. IsEnd r.stop) (spoken_run p s limit c) w.at_end;
+  all_used = ap (λ r. r.unused) (sym (spoken_run p s limit c)) ∙ w.all_used;
+}
+
+whole_to : (p : Program) (s : State) (limit : ℕ) (c : List Bool) → IsWhole p s limit c
+    → IsWholeTold (spoken p) s limit c
+whole_to p s limit c w = record {
+  at_end = subst (λ r. IsEnd r.stop) (sym (spoken_run p s limit c)) w.at_end;
+  all_used = ap (λ r. r.unused) (spoken_run p s limit c) ∙ w.all_used;
+}
 
 pub followed_at : (p : Program) (s : State) (limit : ℕ) (c : List Bool) (last : State) (finish : Finish)
     (askers : List AskedBy) (q : Configuration) → q ≡ configuration_at p s
-    → IsFollowed q.program q.state limit c last finish askers → IsFollowed p s limit c last finish askers
+    → IsFollowed q.program q.state limit c last finish askers → IsFollowed (spoken p) s limit c last finish askers
 followed_at p s limit c last finish askers q is h =
     subst (λ (x : Configuration). IsFollowed x.program x.state limit c last finish askers) is h
 
 followed_line : (p : Program) (s : State) (limit : ℕ) (c : List Bool) (last : State) (finish : Finish)
-    (askers : List AskedBy) → IsFollowed p s limit c last finish askers
+    (askers : List AskedBy) → IsFollowed (spoken p) s limit c last finish askers
     → line_of_run p s limit c ≡ line_of c finish last.output
 followed_line p s limit c last finish askers h =
-    ap (λ (stop : Stop). compiled_at c stop (run p s limit c).last.output) h.stop_is
+    ap (λ r. compiled_at c r.stop r.last.output) (sym (spoken_run p s limit c))
+    ∙ ap (λ (stop : Stop). compiled_at c stop (run_told (spoken p) s limit c).last.output) h.stop_is
     ∙ ap (λ (x : State). line_of c finish x.output) h.last_is
 
 pub line_same : (p : Program) (s : State) (limit : ℕ) (c : List Bool) (last : State) (finish : Finish)
-    (askers : List AskedBy) (line wanted : List ℕ) → IsFollowed p s limit c last finish askers
+    (askers : List AskedBy) (line wanted : List ℕ) → IsFollowed (spoken p) s limit c last finish askers
     → wanted ++ codes "\n" ≡ line_of c finish last.output → wanted ≡ line → IsLineOf p s limit line c
 line_same p s limit c last finish askers line wanted h shown is = record {
-  whole = h.whole;
+  whole = whole_of p s limit c h.whole;
   same = ap (λ (l : List ℕ). l ++ codes "\n") (sym is)
       ∙ (shown ∙ sym (followed_line p s limit c last finish askers h));
 }
 
 pub line_other : (p : Program) (s : State) (limit : ℕ) (c : List Bool) (last : State) (finish : Finish)
-    (askers : List AskedBy) (line wanted : List ℕ) → IsFollowed p s limit c last finish askers
+    (askers : List AskedBy) (line wanted : List ℕ) → IsFollowed (spoken p) s limit c last finish askers
     → wanted ++ codes "\n" ≡ line_of c finish last.output → wanted ≢ line → ¬ IsLineOf p s limit line c
 line_other p s limit c last finish askers line wanted h shown other k =
     other (append_cancel_right wanted line (codes "\n")
@@ -223,6 +252,7 @@ line_other p s limit c last finish askers line wanted h shown other k =
 
 -- choices that aren't whole have no line
 pub line_of_none : (p : Program) (s : State) (limit : ℕ) (c : List Bool) (line : List ℕ) (q : Configuration)
-    → q ≡ configuration_at p s → ¬ IsWhole q.program q.state limit c → ¬ IsLineOf p s limit line c
+    → q ≡ configuration_at p s → ¬ IsWholeTold q.program q.state limit c → ¬ IsLineOf p s limit line c
 line_of_none p s limit c line q is none k =
-    none (subst (λ (x : Configuration). IsWhole x.program x.state limit c) (sym is) k.whole)
+    none (subst (λ (x : Configuration). IsWholeTold x.program x.state limit c) (sym is)
+    (whole_to p s limit c k.whole))

@@ -23,10 +23,12 @@ use Rattle.ick_job.specs.declared.notice.Notice.TheVariants as notice
 use Rattle.ick_job.proofs.Ends.{leaves_as, leaves_by}
 use Rattle.ick_outcomes_cli.specs.Asked.{IsAskedBy, foreign_text}
 use Rattle.ick_outcomes_cli.specs.OutcomesEnd.{Gives, IsRefusal, LeavesAll, listing_of}
-use Rattle.ick_outcomes_cli.specs.Job.{Wanted, limit_or_usual}
+use Rattle.ick_outcomes_cli.specs.Job.{Wanted, limit_or_usual, memory_of}
+use Rattle.ick_outcomes_cli.specs.Unfinished.{IsUnfinished, IsUnfinishedText, has_more, many_states, much_kept, not_solved}
+use Rattle.ick_outcomes_cli.specs.Unfinished.{takes_more, unsolved}
 use Rattle.ick_outcomes_cli.specs.Tool.{IsExplained, IsFound, IsReadAnswer, IsProgramAnswer, IsSourceAnswer}
 use Rattle.ick_outcomes_cli.specs.Tool.{IsStop, IsStopped, IsSummed, IsTextFound, IsToldOf, MayStop, Stops}
-use Rattle.ick_outcomes_cli.specs.Tool.{HasLine, goes_on, many_runs}
+use Rattle.ick_outcomes_cli.specs.Tool.{HasLine, many_runs, unlisted}
 use Rattle.ick_outcomes_cli.specs.Tool.{by_listing, by_outcomes, compiled, explained, foreign, listing_too_long}
 use Rattle.ick_outcomes_cli.specs.Tool.{longest_listing, may_stop, not_read, read, refused, summed, too_long}
 use Rattle.ick_outcomes_cli.specs.declared.asked.Asked.{Asked}
@@ -318,13 +320,20 @@ stopped_found p input limit q (Outcomes text) line is h = absurd h
 stopped_found p input limit q TooManyStates line is h = subst (IsStop p input q limit) (sym h) (many_runs limit is)
 stopped_found p input limit q (NotFound text) line is h =
     subst (λ (l : Option ℕ). IsStop p input q l line) (sym is.0)
-    (subst (IsStop p input q None) (sym h) (goes_on text.items is.1 is.2))
+    (subst (IsStop p input q None) (sym h) (unlisted text.items is.1))
+
+-- the line of a search that was not ended
+pub unfinished_text : (p : Program) (input : List ℕ) (q : Question) (line : List ℕ) → IsUnfinished p input q line
+    → IsUnfinishedText line
+unfinished_text p input q line (has_more steps h) = many_states q steps
+unfinished_text p input q line (takes_more h) = much_kept q
+unfinished_text p input q line unsolved = not_solved q
 
 pub found_line : (p : Program) (input : List ℕ) (limit : Option ℕ) (q : Question) (found : Found)
     → IsFound p input limit q found → HasLine found
 found_line p input limit q (Outcomes text) is = tt
 found_line p input limit q TooManyStates is = tt
-found_line p input limit q (NotFound text) is = (q.most, is.2)
+found_line p input limit q (NotFound text) is = unfinished_text p input q text.items is.1.reason
 
 pub listing_told : (p : Program) (input : List ℕ) (limit : ℕ) (listing : List ℕ) (told : Asked) (answer : Answer)
     → length listing ≤ longest_listing → IsAskedBy p (first_state p input) limit listing told → IsToldOf told answer

@@ -3,4 +3,9 @@ pub mod Giving
 pub mod Leaving
 pub mod Explaining
 pub mod Serving
+pub mod Showing
 pub mod Short
+pub mod Reasons
+pub mod OneText
+pub mod OneWeight
+pub mod OneAnswer

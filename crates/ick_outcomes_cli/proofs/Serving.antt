@@ -20,7 +20,7 @@ outcomes_due (By job_end) f f' r r' w w' x = as_ick _ _ (due job_end f f' r r' w
 outcomes_due (Refused notice.TooManyStates) f f' r r' w w' x = many_states (same_counts _ _ _ _ _ _ x.1 x.2 x.3)
 outcomes_due (Refused notice.ListingTooLong) f f' r r' w w' x = long_listing (same_counts _ _ _ _ _ _ x.1 x.2 x.3)
 outcomes_due (Unfinished line) f f' r r' w w' x =
-    unfinished x.0.0 line.items x.0.1 (same_counts _ _ _ _ _ _ x.1 x.2 x.3)
+    unfinished line.items x.0 (same_counts _ _ _ _ _ _ x.1 x.2 x.3)
 outcomes_due (Refused notice.ChoicesAndSeed) f f' r r' w w' x = absurd x.0
 outcomes_due (Refused notice.BadCursor) f f' r r' w w' x = absurd x.0
 outcomes_due (Refused notice.NoSuchRun) f f' r r' w w' x = absurd x.0
@@ -41,7 +41,7 @@ outcomes_status old new told e e' errs errs' code text status (many_states same)
     let four = four_by told 4 _ e e' errs errs' code done refl in inl (omega (arith, four))
 outcomes_status old new told e e' errs errs' code text status (long_listing same) done =
     let four = four_by told 4 _ e e' errs errs' code done refl in inl (omega (arith, four))
-outcomes_status old new told e e' errs errs' code text status (unfinished most line is same) done =
+outcomes_status old new told e e' errs errs' code text status (unfinished line is same) done =
     let four = four_by told 4 _ e e' errs errs' code done refl in inl (omega (arith, four))
 
 -- an answer, by its error text and its status

@@ -5,6 +5,7 @@ use Rattle.std.specs.Str.Iter.{LacksByte}
 use Rattle.ick_code.specs.meaning.State.{State}
 use Rattle.ick_backtrack.specs.Machine.{Program}
 use Rattle.ick_outcomes.specs.Askers.{asked, asked_line}
+use Rattle.ick_outcomes.specs.Programs.{spoken}
 use Rattle.ick_outcomes_cli.specs.Lines.{IsLast, IsListed, IsRunLine}
 use Rattle.ick_outcomes_cli.specs.declared.asked.Asked.{Asked}
 use Rattle.ick_outcomes_cli.specs.declared.asked.Asked.TheVariants.{Text, Foreign}
@@ -16,7 +17,7 @@ pub data Explains (p : Program) (s : State) (limit : ℕ) : List ℕ → List �
       → Explains p s limit (line ++ 10 ∷ rest) text
   run_line : (line rest text : List ℕ) (c : List Bool) → LacksByte 10 line → (IsLast line → ⊥)
       → IsRunLine p s limit line c → Explains p s limit rest text
-      → Explains p s limit (line ++ 10 ∷ rest) (asked_line (asked p s limit c) ++ text)
+      → Explains p s limit (line ++ 10 ∷ rest) (asked_line (asked (spoken p) s limit c) ++ text)
 
 -- the first line of a listing that no listing of the program has, by its number
 pub data ForeignAt (p : Program) (s : State) (limit : ℕ) : List ℕ → ℕ → Type 0 where

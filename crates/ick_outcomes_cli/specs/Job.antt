@@ -1,6 +1,8 @@
 -- The job that arguments ask for, as clap parses them.
 use Rattle.std.specs.Prelude.{◌≡◌, ◌&&◌, ◌||◌, ℕ, Bool, List, [], Option, codes, is_some, option_map, unwrap_or}
 use Rattle.clap.specs.Words.{Row, Text, fault_of, matches_of}
+use Rattle.ick_backtrack.specs.Machine.{Program}
+use Rattle.ick_outcomes.specs.Programs.{Program as Told}
 use Rattle.ick_job.specs.Values.{flag_in, number_in, number_or, text_in}
 use Rattle.ick_outcomes_cli.specs.Words.{outcomes_app}
 use Rattle.ick_outcomes_cli.specs.declared.words.job.Job.{Job}
@@ -10,8 +12,19 @@ use Rattle.ick_outcomes_cli.specs.declared.words.job.Question.{Question}
 abbrev pub usual_limit : ℕ
 usual_limit = 10000
 
+-- the bytes that the states may take without a limit if no number is given
+abbrev pub usual_memory : ℕ
+usual_memory = 2000000000
+
 abbrev pub limit_or_usual : Option ℕ → ℕ
 limit_or_usual limit = unwrap_or limit usual_limit
+
+abbrev pub memory_of : Question → ℕ
+memory_of q = unwrap_or q.memory usual_memory
+
+-- the program as its outcomes are told apart: if by their ends alone, its output is left out
+abbrev pub asked_of : Program → Question → Told
+asked_of program q = record { statements = program; silent = q.ends }
 
 -- what a job is, whatever memory its texts are in
 pub record Wanted : Type 0 where
@@ -32,8 +45,11 @@ wanted j = record {
 abbrev pub question_in : List Row → Question
 question_in rows = record {
   most = number_or (codes "most") rows 1000000;
+  memory = number_in 64 (codes "memory") rows;
   exact = flag_in (codes "exact") rows;
   total = flag_in (codes "total") rows;
+  ends = flag_in (codes "ends") rows;
+  states = flag_in (codes "states") rows;
 }
 
 abbrev pub wanted_in : List Row → Wanted
@@ -52,8 +68,20 @@ abbrev pub job_of : List Text → Wanted
 job_of words = wanted_in (matches_of outcomes_app words)
 
 -- it names a listing, and asks for a form of outcomes too
+abbrev pub lists_too : Wanted → Bool
+lists_too w = is_some w.listing && (w.question.exact || w.question.total || w.question.ends)
+
+-- it has a limit on steps, and bounds the bytes of a search without a limit too
+abbrev pub limits_too : Wanted → Bool
+limits_too w = is_some w.limit && is_some w.question.memory
+
+-- it asks for states, and for another answer too
+abbrev pub states_too : Wanted → Bool
+states_too w = w.question.states && (is_some w.limit || w.question.total || is_some w.listing)
+
+-- it asks for two things that don't go together
 abbrev pub asks_both : Wanted → Bool
-asks_both w = is_some w.listing && (w.question.exact || w.question.total)
+asks_both w = states_too w || (lists_too w || limits_too w)
 
 -- it names a file
 abbrev pub has_file : Wanted → Bool

@@ -35,7 +35,7 @@ LeavesAll (By job_end) files files' reads reads' writes writes' =
 LeavesAll (Refused line) files files' reads reads' writes writes' =
     IsRefusal line × (files' ≡ files) × (reads' ≡ reads) × (writes' ≡ writes)
 LeavesAll (Unfinished line) files files' reads reads' writes writes' =
-    ((most : ℕ) × IsUnfinishedText most line.items) × (files' ≡ files) × (reads' ≡ reads) × (writes' ≡ writes)
+    IsUnfinishedText line.items × (files' ≡ files) × (reads' ≡ reads) × (writes' ≡ writes)
 
 -- a fact that holds if the work ended with an answer
 abbrev pub WhereGiven : OutcomesEnd → Type 0 → Type 0

@@ -13,7 +13,7 @@ pub data IsOutcomesDue (old new : Failures) : List ℕ → ℕ → Type 0 where
   as_ick : (text : List ℕ) (status : ℕ) → IsDue old new text status → IsOutcomesDue old new text status
   many_states : new ≡ old → IsOutcomesDue old new (notice_text TooManyStates) 4
   long_listing : new ≡ old → IsOutcomesDue old new (notice_text ListingTooLong) 4
-  unfinished : (most : ℕ) (line : List ℕ) → IsUnfinishedText most line → new ≡ old → IsOutcomesDue old new line 4
+  unfinished : (line : List ℕ) → IsUnfinishedText line → new ≡ old → IsOutcomesDue old new line 4
 
 -- The error text and the status that are due to a job, behind what was written. They are those of an answer that the
 -- job has, and all of its output is written, or the writer failed and a prefix of it is. Or nothing is written: the

@@ -1,5 +1,6 @@
 -- What is answered to a job, by its source, its input and its listing.
-use Rattle.std.specs.Prelude.{◌≡◌, ◌<◌, ◌≤◌, ℕ, Bool, true, false, List, [], Option, Some, None, codes, length}
+use Rattle.std.specs.Prelude.{◌≡◌, ◌<◌, ◌≤◌, ◌++◌, if◌then◌else◌, ℕ, Bool, true, false, List, [], Option, Some, None}
+use Rattle.std.specs.Prelude.{codes, length}
 use Rattle.std.specs.List.{Contains}
 use Rattle.ick_bits.specs.Faults.{message_of}
 use Rattle.ick_bits.specs.declared.faults.FaultKind.{FaultKind}
@@ -8,11 +9,13 @@ use Rattle.ick_syntax.specs.StatementTree.{StatementTree}
 use Rattle.ick_code.specs.meaning.Move.{first_state}
 use Rattle.ick_backtrack.specs.Asked.{at_limit}
 use Rattle.ick_backtrack.specs.Machine.{Program}
-use Rattle.ick_chain.specs.ExactListings.{IsExactListing}
+use Rattle.ick_chain.specs.ExactListings.{IsExactListing, numbers_text}
+use Rattle.ick_chain.specs.StatesTexts.{IsStatesText}
 use Rattle.ick_explorer.specs.Runs.{IsWhole, ends, run}
 use Rattle.ick_outcomes.specs.Lines.{IsSummaryText, IsTotal}
 use Rattle.ick_outcomes.specs.Seen.{rows_of}
-use Rattle.ick_outcomes.specs.Summaries.{HasMoreRuns, IsSummary, Row}
+use Rattle.ick_outcomes.specs.Summaries.{HasMoreRuns, IsSummary, Row, count_of}
+use Rattle.ick_outcomes.specs.Texts.{IsNumberText}
 use Rattle.ick_outcomes.specs.declared.outcome.Outcome.{Outcome}
 use Rattle.clap.specs.Words.{Text}
 use Rattle.ick_job.specs.Notice.{notice_text}
@@ -20,8 +23,9 @@ use Rattle.ick_job.specs.Answer.{Answer, refusal, shown}
 use Rattle.ick_job.specs.Input.{longest_input}
 use Rattle.ick_job.specs.declared.notice.Notice.TheVariants as notice
 use Rattle.ick_outcomes_cli.specs.Asked.{Explains, ForeignAt, foreign_text}
-use Rattle.ick_outcomes_cli.specs.Job.{Wanted, asks_both, limit_or_usual, usual_limit}
-use Rattle.ick_outcomes_cli.specs.Unfinished.{IsUnfinishedText}
+use Rattle.ick_outcomes_cli.specs.Job.{Wanted, asked_of, asks_both, limit_or_usual, lists_too, states_too}
+use Rattle.ick_outcomes_cli.specs.Job.{usual_limit}
+use Rattle.ick_outcomes_cli.specs.Unfinished.{IsUnfinished, IsUnfinishedText}
 use Rattle.ick_outcomes_cli.specs.declared.asked.Asked.{Asked}
 use Rattle.ick_outcomes_cli.specs.declared.asked.Asked.TheVariants.{Foreign, Text as Told}
 use Rattle.ick_outcomes_cli.specs.declared.found.Found.{Found}
@@ -29,20 +33,37 @@ use Rattle.ick_outcomes_cli.specs.declared.found.Found.TheVariants.{Outcomes, To
 use Rattle.ick_outcomes_cli.specs.declared.words.job.Question.{Question}
 
 -- the text of outcomes, or only how many there are
-abbrev pub IsTextOf : (exact total : Bool) → List Outcome → List ℕ → Type 0
-IsTextOf exact true outcomes text = IsTotal outcomes text
-IsTextOf exact false outcomes text = IsSummaryText exact outcomes text
+abbrev pub IsTextOf : (exact by_ends total : Bool) → List Outcome → List ℕ → Type 0
+IsTextOf exact by_ends true outcomes text = IsTotal outcomes text
+IsTextOf exact by_ends false outcomes text = IsSummaryText exact by_ends outcomes text
+
+-- the same for a program whose runs all end: the numbers of outcomes and of runs have their nouns in the singular if
+-- they are 1
+pub record IsEndedTotal (outcomes : List Outcome) (text : List ℕ) : Type 0 where
+  pub runs : List ℕ
+  pub counted : IsNumberText (count_of (rows_of outcomes)) runs
+  pub same : text ≡ numbers_text (length outcomes) runs ++ codes "\n"
+
+abbrev pub IsEndedText : (exact by_ends total : Bool) → List Outcome → List ℕ → Type 0
+IsEndedText exact by_ends true outcomes text = IsEndedTotal outcomes text
+IsEndedText exact by_ends false outcomes text = IsSummaryText exact by_ends outcomes text
 
 -- the text is that of the summary of all runs of a program over an input
 pub record IsOutcomes (program : Program) (input : List ℕ) (limit : ℕ) (q : Question)
     (text : List ℕ) : Type 0 where
   pub outcomes : List Outcome
-  pub summary : IsSummary program (first_state program input) limit (rows_of outcomes)
-  pub text_is : IsTextOf q.exact q.total outcomes text
+  pub summary : IsSummary (asked_of program q) (first_state program input) limit (rows_of outcomes)
+  pub text_is : IsTextOf q.exact q.ends q.total outcomes text
+
+-- the same, with the text for a program whose runs all end
+pub record IsEnded (program : Program) (input : List ℕ) (limit : ℕ) (q : Question) (text : List ℕ) : Type 0 where
+  pub outcomes : List Outcome
+  pub summary : IsSummary (asked_of program q) (first_state program input) limit (rows_of outcomes)
+  pub text_is : IsEndedText q.exact q.ends q.total outcomes text
 
 -- the program has more runs than states may be kept
 abbrev pub HasTooMany : Program → List ℕ → ℕ → Question → Type 0
-HasTooMany program input limit q = HasMoreRuns program (first_state program input) limit q.most
+HasTooMany program input limit q = HasMoreRuns (asked_of program q) (first_state program input) limit q.most
 
 -- a run of a program over an input is cut short by the limit
 pub record GoesOn (program : Program) (input : List ℕ) (limit : ℕ) : Type 0 where
@@ -57,29 +78,49 @@ HasLimit rows = (r : Row) × Contains rows r × (r.end ≡ codes "LIMIT")
 -- The text lists the outcomes of a program over an input without a limit. They are found by all states, or they are those
 -- under the usual limit, before which each run ends.
 pub data IsEveryOutcome (program : Program) (input : List ℕ) (q : Question) (text : List ℕ) : Type 0 where
-  by_states : IsExactListing program (first_state program input) q.exact q.total text
+  by_states : IsExactListing (asked_of program q) (first_state program input) q.exact q.total text
       → IsEveryOutcome program input q text
-  by_runs : ¬ GoesOn program input usual_limit → IsOutcomes program input usual_limit q text
+  by_runs : ¬ GoesOn program input usual_limit → IsEnded program input usual_limit q text
       → IsEveryOutcome program input q text
 
--- the text lists the outcomes, under a limit if one is given
+-- how many steps without a choice lie at most between two states that are printed
+abbrev pub stretch : ℕ
+stretch = 10000
+
+-- without a limit the text lists the states, if they are asked for, or else the outcomes
+abbrev pub IsUnlimited : Bool → Program → List ℕ → Question → List ℕ → Type 0
+IsUnlimited true program input q text =
+    IsStatesText (asked_of program q) (first_state program input) stretch q.exact text
+IsUnlimited false program input q text = IsEveryOutcome program input q text
+
+-- the text lists the outcomes, under a limit if one is given; or the states
 abbrev pub IsListed : Program → List ℕ → Option ℕ → Question → List ℕ → Type 0
-IsListed program input None q text = IsEveryOutcome program input q text
+IsListed program input None q text = IsUnlimited q.states program input q text
 IsListed program input (Some limit) q text = IsOutcomes program input limit q text
 
--- The line may be the answer in place of outcomes: there are more runs than states may be kept, or no limit is given,
--- and a run goes on beyond the usual limit.
+-- There are more runs than states may be kept, and without a limit the states were not searched to the end either.
+abbrev pub IsTooMuch : Program → List ℕ → Option ℕ → Question → Type 0
+IsTooMuch program input None q =
+    (q.states ≡ false) × HasTooMany program input usual_limit q × ((line : List ℕ) × IsUnfinished program input q line)
+IsTooMuch program input (Some limit) q = HasTooMany program input limit q
+
+-- without a limit the line says why the states were not searched to the end; in place of outcomes it may be the answer
+-- only if a run goes on beyond the usual limit
+pub record IsUnlisted (program : Program) (input : List ℕ) (q : Question) (line : List ℕ) : Type 0 where
+  pub beyond : q.states ≡ false → GoesOn program input usual_limit
+  pub reason : IsUnfinished program input q line
+
+-- The line may be the answer in place of outcomes: there are too many runs. Or no limit is given, and it says why the
+-- states were not searched to the end.
 pub data IsStop (program : Program) (input : List ℕ) (q : Question) : Option ℕ → List ℕ → Type 0 where
-  many_runs : (limit : Option ℕ) → HasTooMany program input (limit_or_usual limit) q
+  many_runs : (limit : Option ℕ) → IsTooMuch program input limit q
       → IsStop program input q limit (notice_text notice.TooManyStates)
-  goes_on : (line : List ℕ) → GoesOn program input usual_limit → IsUnfinishedText q.most line
-      → IsStop program input q None line
+  unlisted : (line : List ℕ) → IsUnlisted program input q line → IsStop program input q None line
 
 abbrev pub IsFound : Program → List ℕ → Option ℕ → Question → Found → Type 0
 IsFound program input limit q (Outcomes text) = IsListed program input limit q text.items
-IsFound program input limit q TooManyStates = HasTooMany program input (limit_or_usual limit) q
-IsFound program input limit q (Unfinished line) =
-    (limit ≡ None) × GoesOn program input usual_limit × IsUnfinishedText q.most line.items
+IsFound program input limit q TooManyStates = IsTooMuch program input limit q
+IsFound program input limit q (Unfinished line) = (limit ≡ None) × IsUnlisted program input q line.items
 
 -- the bytes of the longest listing
 unfoldable pub longest_listing : ℕ
@@ -130,14 +171,17 @@ pub data IsReadAnswer (w : Wanted) (input : List ℕ) (listing : Option (List �
   read : (source : List ℕ) (answer : Answer) → IsSourceAnswer w source input listing answer
       → IsReadAnswer w input listing (Some source) answer
 
--- the line for a listing together with a form of outcomes
-abbrev pub both_text : List ℕ
-both_text = codes "ASKED WITH EXACT OR TOTAL\n"
+-- the line for two things that don't go together
+abbrev pub both_text : Wanted → List ℕ
+both_text w =
+    if states_too w then codes "STATES WITH LIMIT, TOTAL OR ASKED\n"
+    else if lists_too w then codes "ASKED WITH EXACT, TOTAL OR ENDS\n"
+    else codes "MEMORY WITH LIMIT\n"
 
 -- the answer to a job
 pub data IsOutcomesAnswer (w : Wanted) (input : List ℕ) (listing : Option (List ℕ)) (source : Option (List ℕ)) :
     Answer → Type 0 where
-  both : asks_both w ≡ true → IsOutcomesAnswer w input listing source (refusal 64 both_text)
+  both : asks_both w ≡ true → IsOutcomesAnswer w input listing source (refusal 64 (both_text w))
   one : (answer : Answer) → asks_both w ≡ false → IsReadAnswer w input listing source answer
       → IsOutcomesAnswer w input listing source answer
 
@@ -156,7 +200,7 @@ pub data MayStop (w : Wanted) (input : List ℕ) : Option (List ℕ) → List �
 abbrev pub HasLine : Found → Type 0
 HasLine (Outcomes text) = Unit {0}
 HasLine TooManyStates = Unit {0}
-HasLine (Unfinished line) = (most : ℕ) × IsUnfinishedText most line.items
+HasLine (Unfinished line) = IsUnfinishedText line.items
 
 -- the answer by what was found out, and by what was told of a listing
 abbrev pub IsTextFound : Found → Answer → Type 0

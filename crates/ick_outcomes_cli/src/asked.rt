@@ -1,8 +1,9 @@
 //! What the choices of a listing were asked by.
 
-ghost use Rattle.std.specs.Prelude.{◌≡◌, ◌≢◌, List, Bool, IfOk, IfSome, None, Ok};
+ghost use Rattle.std.specs.Prelude.{◌≡◌, ◌≢◌, List, Bool, false, IfOk, IfSome, None, Ok};
 ghost use Rattle.ick_code.specs.Compiled.{code_program};
 ghost use Rattle.ick_code.specs.meaning.Move.{first_state};
+ghost use Rattle.ick_outcomes.specs.Programs.{spoken};
 ghost use Rattle.ick_outcomes.specs.Askers.{asked, asked_line};
 ghost use Rattle.ick_outcomes_cli.specs.Asked.{IsAskedBy};
 ghost use Rattle.ick_outcomes_cli.specs.Lines.{IsLineOf, IsRunLine};
@@ -12,7 +13,7 @@ use ick_bits::NoMemory;
 use ick_code::Code;
 use ick_explorer::{Cursor, RunsError, one_reading, runs_are_limited};
 use ick_outcomes::{States, asked_text, follow, run_line};
-use ick_states::Runs;
+use ick_states::StateSpace;
 use std::alloc::Global;
 
 /// A text that names, in a line for each run of a listing, the statements that asked for its
@@ -35,7 +36,7 @@ pub fn asked_by(
     ensures { IfOk result (λ asked. IsAskedBy (code_program code.now)
         (first_state (code_program code.now) input.now) limit listing.now asked) }
 {
-    let runs = Runs::new(alloc, code, input)?;
+    let runs = StateSpace::new(alloc, code, input, false)?;
     let mut tools = runs.tools()?;
     let first = runs.first()?;
     lines_asked(alloc, &runs, &mut tools, &first, limit, listing)
@@ -53,7 +54,8 @@ fn lines_asked<'c, P: States<'c>>(
 ) -> Result<Asked, NoMemory>
     requires tools { P.serves program.now tools.old }
     requires first { P.suits program.now first.now }
-    ensures { IfOk result (λ asked. IsAskedBy (P.seen program.now first.now).program
+    requires spoken { (P.seen program.now first.now).program.silent ≡ false }
+    ensures { IfOk result (λ asked. IsAskedBy (P.seen program.now first.now).program.statements
         (P.seen program.now first.now).state limit listing.now asked) }
 {
     let mut text = Vec::new(alloc);
@@ -87,13 +89,15 @@ fn line_asked<'c, P: States<'c>>(
 ) -> Result<Option<Vec<u8>>, NoMemory>
     requires tools { P.serves program.now tools.old }
     requires first { P.suits program.now first.now }
+    requires spoken { (P.seen program.now first.now).program.silent ≡ false }
     ensures some { IfOk result (λ found. IfSome found (λ text. (c : List Bool)
-        × IsRunLine (P.seen program.now first.now).program (P.seen program.now first.now).state
+        × IsRunLine (P.seen program.now first.now).program.statements
+        (P.seen program.now first.now).state
         limit line.now c
-        × (text.items ≡ asked_line (asked (P.seen program.now first.now).program
+        × (text.items ≡ asked_line (asked (spoken (P.seen program.now first.now).program.statements)
         (P.seen program.now first.now).state limit c)))) }
     ensures none { result ≡ Ok None → (c : List Bool)
-        → ¬ IsRunLine (P.seen program.now first.now).program
+        → ¬ IsRunLine (P.seen program.now first.now).program.statements
         (P.seen program.now first.now).state limit line.now c }
     ensures tools { P.serves program.now tools.new }
 {
@@ -132,12 +136,14 @@ fn run_asked<'c, P: States<'c>>(
 ) -> Result<Option<Vec<u8>>, NoMemory>
     requires tools { P.serves program.now tools.old }
     requires first { P.suits program.now first.now }
+    requires spoken { (P.seen program.now first.now).program.silent ≡ false }
     ensures some { IfOk result (λ found. IfSome found (λ text.
-        IsLineOf (P.seen program.now first.now).program (P.seen program.now first.now).state
+        IsLineOf (P.seen program.now first.now).program.statements
+        (P.seen program.now first.now).state
         limit line.now choices.now
-        × (text.items ≡ asked_line (asked (P.seen program.now first.now).program
+        × (text.items ≡ asked_line (asked (spoken (P.seen program.now first.now).program.statements)
         (P.seen program.now first.now).state limit choices.now)))) }
-    ensures none { result ≡ Ok None → ¬ IsLineOf (P.seen program.now first.now).program
+    ensures none { result ≡ Ok None → ¬ IsLineOf (P.seen program.now first.now).program.statements
         (P.seen program.now first.now).state limit line.now choices.now }
     ensures tools { P.serves program.now tools.new }
 {

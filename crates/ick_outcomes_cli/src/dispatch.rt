@@ -4,6 +4,7 @@
 ghost use Rattle.std.specs.Prelude.{◌≡◌, ◌+◌, ◌<◌, ◌^◌, ℕ, IfOk, List, None, Some};
 ghost use Rattle.std.specs.Prelude.{drop, false, true};
 ghost use Rattle.ick_code.specs.Compiled.{code_program};
+ghost use Rattle.ick_chain.specs.Progress.{OnlyShows};
 ghost use Rattle.ick_job.specs.JobEnd.{EndsBy, input_of, source_of};
 ghost use Rattle.ick_outcomes_cli.specs.Asked.{foreign_text};
 ghost use Rattle.ick_job.specs.Input.{longest_input};
@@ -21,10 +22,11 @@ use crate::found::{Found, find};
 use crate::outcomes_end::OutcomesEnd;
 use crate::words::{Job, Question, USUAL_LIMIT};
 use ick_bits::{NoMemory, append_decimal};
+use ick_chain::Progress;
 use ick_code::{Code, compile};
-use ick_explorer::{ByteSink, ByteSource, SliceSource};
+use ick_devices::{ByteSink, ByteSource, Files, SliceSource};
 use ick_job::{
-    Files, JobEnd, Message, Notice, read_file, read_front, read_input, read_named, refused, send,
+    JobEnd, Message, Notice, read_file, read_front, read_input, read_named, refused, send,
 };
 use ick_source::read_source;
 use std::alloc::Global;
@@ -33,15 +35,16 @@ use std::alloc::Global;
 const LONGEST_LISTING: usize = 1_073_741_824;
 
 /// Does a job up to its error text. The source is in the file that the job names, and the reader
-/// has the input. If the job names no file, the reader has the source, and the input is empty. A
-/// listing together with a form of outcomes is refused, and nothing is opened.
-pub fn perform<F: Files, L: Files, R: ByteSource, W: ByteSink>(
+/// has the input. If the job names no file, the reader has the source, and the input is empty. Two
+/// things that don't go together are refused, and nothing is opened.
+pub fn perform<F: Files, L: Files, R: ByteSource, W: ByteSink, E: Progress>(
     alloc: Global,
     job: &Job<'_>,
     files: &mut F,
     listings: &mut L,
     reader: &mut R,
     writer: &mut W,
+    errors: &mut E,
 ) -> OutcomesEnd
     requires files_sound { F.failed files.old + 1 < 2 ^ 64 }
     requires listings_sound { L.failed listings.old + 1 < 2 ^ 64 }
@@ -66,18 +69,19 @@ pub fn perform<F: Files, L: Files, R: ByteSource, W: ByteSink>(
         → (files.new ≡ files.old) × (listings.new ≡ listings.old) }
     ensures source_first { has_file (wanted job.now) ≡ false
         → R.failed reader.old < R.failed reader.new → writer.new ≡ writer.old }
+    ensures shown { OnlyShows E.told E.failed E.written E.shows errors.old errors.new }
 {
     if job.asks_both() {
-        return OutcomesEnd::By(refuse_both(alloc));
+        return OutcomesEnd::By(refuse_both(alloc, job));
     }
-    answer_job(alloc, job, files, listings, reader, writer)
+    answer_job(alloc, job, files, listings, reader, writer, errors)
 }
 
-/// Returns how work ends that asks for a listing together with a form of outcomes.
-fn refuse_both(alloc: Global) -> JobEnd
-    ensures { EndsBy 64 both_text result }
+/// Returns how work ends that asks for two things that don't go together.
+fn refuse_both(alloc: Global, job: &Job<'_>) -> JobEnd
+    ensures { EndsBy 64 (both_text (wanted job.now)) result }
 {
-    usage_end(both_line(alloc))
+    usage_end(both_line(alloc, job))
 }
 
 /// Returns how work ends by a line with the status of usage.
@@ -93,24 +97,33 @@ fn usage_end(line: Result<Vec<u8>, NoMemory>) -> JobEnd
     }
 }
 
-/// Returns the line for a listing together with a form of outcomes.
-fn both_line(alloc: Global) -> Result<Vec<u8>, NoMemory>
-    ensures { IfOk result (λ text. text.items ≡ both_text) }
+/// Returns the line for two things that don't go together.
+fn both_line(alloc: Global, job: &Job<'_>) -> Result<Vec<u8>, NoMemory>
+    ensures { IfOk result (λ text. text.items ≡ both_text (wanted job.now)) }
 {
     let mut text = Vec::new(alloc);
-    text.extend_from_slice(b"ASKED WITH EXACT OR TOTAL\n")?;
+    if job.states_too() {
+        text.extend_from_slice(b"STATES WITH LIMIT, TOTAL OR ASKED\n")?;
+        return Ok(text);
+    }
+    if job.lists_too() {
+        text.extend_from_slice(b"ASKED WITH EXACT, TOTAL OR ENDS\n")?;
+        return Ok(text);
+    }
+    text.extend_from_slice(b"MEMORY WITH LIMIT\n")?;
     Ok(text)
 }
 
 /// Does a job that doesn't ask for both. The source is in the file that the job names, and the reader
 /// has the input. If the job names no file, the reader has the source, and the input is empty.
-fn answer_job<F: Files, L: Files, R: ByteSource, W: ByteSink>(
+fn answer_job<F: Files, L: Files, R: ByteSource, W: ByteSink, E: Progress>(
     alloc: Global,
     job: &Job<'_>,
     files: &mut F,
     listings: &mut L,
     reader: &mut R,
     writer: &mut W,
+    errors: &mut E,
 ) -> OutcomesEnd
     requires files_sound { F.failed files.old + 1 < 2 ^ 64 }
     requires listings_sound { L.failed listings.old + 1 < 2 ^ 64 }
@@ -133,10 +146,19 @@ fn answer_job<F: Files, L: Files, R: ByteSource, W: ByteSink>(
     ensures listings_kept { (wanted job.now).listing ≡ None → listings.new ≡ listings.old }
     ensures source_first { has_file (wanted job.now) ≡ false
         → R.failed reader.old < R.failed reader.new → writer.new ≡ writer.old }
+    ensures shown { OnlyShows E.told E.failed E.written E.shows errors.old errors.new }
 {
     match job.file {
         Some(name) => match read_file(alloc, name, files) {
-            Ok(source) => answer_source(alloc, job, source.as_slice(), listings, reader, writer),
+            Ok(source) => answer_source(
+                alloc,
+                job,
+                source.as_slice(),
+                listings,
+                reader,
+                writer,
+                errors,
+            ),
             Err(job_end) => OutcomesEnd::By(job_end),
         },
         None => match read_front(alloc, reader) {
@@ -149,6 +171,7 @@ fn answer_job<F: Files, L: Files, R: ByteSource, W: ByteSink>(
                     listings,
                     &mut nothing,
                     writer,
+                    errors,
                 )
             }
             Err(job_end) => OutcomesEnd::By(job_end),
@@ -157,13 +180,14 @@ fn answer_job<F: Files, L: Files, R: ByteSource, W: ByteSink>(
 }
 
 /// Answers a source: it is refused, or its program is compiled, and its input is read.
-fn answer_source<L: Files, R: ByteSource, W: ByteSink>(
+fn answer_source<L: Files, R: ByteSource, W: ByteSink, E: Progress>(
     alloc: Global,
     job: &Job<'_>,
     source: &[u8],
     listings: &mut L,
     reader: &mut R,
     writer: &mut W,
+    errors: &mut E,
 ) -> OutcomesEnd
     requires listings_sound { L.failed listings.old + 1 < 2 ^ 64 }
     requires reader_sound { R.failed reader.old + 1 < 2 ^ 64 }
@@ -180,25 +204,27 @@ fn answer_source<L: Files, R: ByteSource, W: ByteSink>(
     ensures left { R.told ≡ true → WhereGiven result (IsLeftBySource source.now
         (R.left reader.old) (R.left reader.new)) }
     ensures listings_kept { (wanted job.now).listing ≡ None → listings.new ≡ listings.old }
+    ensures shown { OnlyShows E.told E.failed E.written E.shows errors.old errors.new }
 {
     let program = match read_source(alloc, source) {
         Ok(program) => program,
         Err(refusal) => return OutcomesEnd::By(refused(alloc, refusal)),
     };
     match compile(alloc, &program) {
-        Ok(code) => answer_code(alloc, job, &code, listings, reader, writer),
+        Ok(code) => answer_code(alloc, job, &code, listings, reader, writer, errors),
         Err(NoMemory) => OutcomesEnd::By(JobEnd::NoMemory),
     }
 }
 
 /// Answers code over the input that the reader has, which is read whole.
-fn answer_code<L: Files, R: ByteSource, W: ByteSink>(
+fn answer_code<L: Files, R: ByteSource, W: ByteSink, E: Progress>(
     alloc: Global,
     job: &Job<'_>,
     code: &Code<'_>,
     listings: &mut L,
     reader: &mut R,
     writer: &mut W,
+    errors: &mut E,
 ) -> OutcomesEnd
     requires listings_sound { L.failed listings.old + 1 < 2 ^ 64 }
     requires reader_sound { R.failed reader.old + 1 < 2 ^ 64 }
@@ -216,6 +242,7 @@ fn answer_code<L: Files, R: ByteSource, W: ByteSink>(
     ensures left { R.told ≡ true → WhereGiven result
         (R.left reader.new ≡ drop (longest_input + 1) (R.left reader.old)) }
     ensures listings_kept { (wanted job.now).listing ≡ None → listings.new ≡ listings.old }
+    ensures shown { OnlyShows E.told E.failed E.written E.shows errors.old errors.new }
 {
     match read_input(alloc, reader) {
         Ok(input) => match job.listing {
@@ -226,6 +253,7 @@ fn answer_code<L: Files, R: ByteSource, W: ByteSink>(
                 job.limit,
                 job.question,
                 writer,
+                errors,
             ),
             Some(name) => answer_listing(
                 alloc,
@@ -242,13 +270,14 @@ fn answer_code<L: Files, R: ByteSource, W: ByteSink>(
 }
 
 /// Answers code by its outcomes over an input. Nothing is written before all are found.
-fn answer_outcomes<W: ByteSink>(
+fn answer_outcomes<W: ByteSink, E: Progress>(
     alloc: Global,
     code: &Code<'_>,
     input: &[u8],
     limit: Option<u32>,
     question: Question,
     writer: &mut W,
+    errors: &mut E,
 ) -> OutcomesEnd
     requires { W.failed writer.old + 1 < 2 ^ 64 }
     ensures leaves { LeavesAll result 0 0 0 0 (W.failed writer.old) (W.failed writer.new) }
@@ -256,8 +285,9 @@ fn answer_outcomes<W: ByteSink>(
         (IsSummed (code_program code.now) input.now limit question)
         (IsStop (code_program code.now) input.now question limit)
         result (W.written writer.old) (W.written writer.new) }
+    ensures shown { OnlyShows E.told E.failed E.written E.shows errors.old errors.new }
 {
-    match find(alloc, code, input, limit, question) {
+    match find(alloc, code, input, limit, question, errors) {
         Ok(found) => show(found, writer),
         Err(NoMemory) => OutcomesEnd::By(JobEnd::NoMemory),
     }

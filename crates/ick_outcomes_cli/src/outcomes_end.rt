@@ -4,7 +4,7 @@ ghost use Rattle.std.specs.Prelude.{◌≡◌, ◌+◌, ◌<◌, ◌^◌};
 ghost use Rattle.ick_job.specs.Serve.{Finishes};
 ghost use Rattle.ick_outcomes_cli.specs.OutcomesEnd.{outcomes_end_status, outcomes_end_text};
 
-use ick_explorer::ByteSink;
+use ick_devices::ByteSink;
 use ick_job::{JobEnd, Notice, Status, finish};
 
 /// How the work ends: by an end that `ick` has too, or by a refusal, which has a line and status 4

@@ -23,6 +23,7 @@ use Rattle.ick_source.specs.BodyGrammar.{places, item_by, items, assigned, scala
 use Rattle.ick_source.specs.BodyGrammar.{verbs, after, worded_by, body_by, bodies}
 use Rattle.ick_source.specs.declared.verb.Verb.{Verb}
 use Rattle.ick_syntax.specs.declared.body.Gerund.{Gerund}
+use Rattle.ick_source.specs.declared.wanted.Wanted.{Wanted}
 use Rattle.ick_source.specs.Grammar.{Grammar, sign, word, number, next, looks, sequence, yields, stands, past_word}
 use Rattle.ick_source.specs.Grammar.{among, pick, separated}
 use Rattle.ick_source.specs.Position.{left_at, next_lead, past_lead, past_white}
@@ -103,19 +104,21 @@ tried_more spelled xs index d old now new w t is k same p = record {
   ];
 }
 
-pub tried_found : {A : Type 0} (spelled : A → List ℕ) (xs : List A) (index : ℕ) (d : A) (old now new : Walker) (w : List ℕ) →
+pub tried_found : {A : Type 0} (wanted : Wanted) (spelled : A → List ℕ) (xs : List A) (index : ℕ) (d : A)
+    (old now new : Walker) (w : List ℕ) →
     Tried spelled xs index d old now → index < length xs → w ≡ spelled (get_or xs index d) →
     past_word w (past_white (left now)) ≡ Some (left new) →
-    Finds (among spelled xs) old new (Some (get_or xs index d))
-tried_found spelled xs index d old now new w t low is p =
-    among_found spelled xs index d (left old) (left new) low t.before
+    Finds (among wanted spelled xs) old new (Some (get_or xs index d))
+tried_found wanted spelled xs index d old now new w t low is p =
+    among_found _ spelled xs index d (left old) (left new) low t.before
     (subst (λ v. past_word v (past_white (left old)) ≡ Some (left new)) is
     (subst (λ z. past_word w (past_white z) ≡ Some (left new)) t.here p))
 
-pub tried_all : {A : Type 0} (spelled : A → List ℕ) (xs : List A) (index : ℕ) (d : A) (old now : Walker) →
-    Tried spelled xs index d old now → length xs ≤ index → Finds (among spelled xs) old now None
-tried_all spelled xs index d old now t low =
-    among_nothing spelled xs d (left old) (λ k less. t.before k (omega (arith, low, less)))
+pub tried_all : {A : Type 0} (wanted : Wanted) (spelled : A → List ℕ) (xs : List A) (index : ℕ) (d : A)
+    (old now : Walker) →
+    Tried spelled xs index d old now → length xs ≤ index → Finds (among wanted spelled xs) old now None
+tried_all wanted spelled xs index d old now t low =
+    among_nothing _ spelled xs d (left old) (λ k less. t.before k (omega (arith, low, less)))
 
 -- the value that was found decides what is passed after it
 pub walks_found : {A B : Type 0} (g : Grammar A) (f : A → Grammar B) (old mid new : Walker) (x : A) (ns : List Mark) →
@@ -357,10 +360,10 @@ item_place : (l : Lead) (old new : Walker) (ms : List Mark) → (l ≡ Hash → 
 item_place (Spot k) old new ms n w = w
 item_place (Array k) old new ms n w = w
 item_place Hash old new ms n w = absurd (n refl)
-item_place (Group q) old new ms n w = w
-item_place (Unary o) old new ms n w = w
-item_place (Binary o) old new ms n w = w
-item_place Other old new ms n w = w
+item_place (Group q) old new ms n w = walks_nothing old new ms w.keeps
+item_place (Unary o) old new ms n w = walks_nothing old new ms w.keeps
+item_place (Binary o) old new ms n w = walks_nothing old new ms w.keeps
+item_place Other old new ms n w = walks_nothing old new ms w.keeps
 
 pub walks_item : (old a b : Walker) (l : Lead) → l ≡ next_lead (left old) → (l ≡ Hash → ⊥) → Walks sign old a [] →
     Walks (place_by l) a b (place_marks_by a.text.now true (left_at a.text.now old.at) l) →

@@ -27,7 +27,7 @@ use Rattle.ick_syntax.specs.declared.tree.BinaryOp.{BinaryOp}
 use Rattle.ick_syntax.specs.declared.tree.NameKind.{NameKind}
 
 closed : (q : Delimiter) (l : Lead) (now : Walker) → Walks (closing q l) now now []
-closed q l now = walks_when (is_group q l) (yields tt) now now [] (walks_yields tt now)
+closed q l now = walks_when _ (is_group q l) (yields tt) now now [] (walks_yields tt now)
 
 pub closes : (q : Delimiter) (old new : Walker) → Walks sign old new [] → Walks (closings q) old new []
 unfolding closings
@@ -283,7 +283,7 @@ walks_both h m old a b c d e l o lead is w s goes operator right whole =
     (keeps_then s.keeps (keeps_then (adds_keeps operator) right.keeps))
     (λ t q. walks_by next (right_by below h m t) a a d (Binary o) _ (next-is (left a) (Binary o) (sym is ∙ lead))
     (walks_next a)
-    (walks_when (nat_le t.height h) _ a d _
+    (walks_when _ (nat_le t.height h) _ a d _
     (walks_then sign _ a b d [] _ s (keeps_then (adds_keeps operator) right.keeps)
     (λ u v. walks_as _ b d _ _
     (ap (λ z. mark z parts.Operator (left_at z a.at) (left b) ∷ (level_marks c.text.now h).expressions m (left c)) at_b

@@ -8,6 +8,7 @@ use Rattle.ick_places.specs.Marks.{past, left_of}
 use Rattle.ick_places.specs.Walks.{left, Keeps, Adds, Walks}
 use Rattle.ick_source.specs.declared.position.Position.{Position}
 use Rattle.ick_source.specs.declared.lead.Lead.{Lead}
+use Rattle.ick_source.specs.declared.wanted.Wanted.{Wanted}
 use Rattle.ick_source.specs.Grammar.{Grammar, yields, nothing, sequence, sign, next, stands, when}
 use Rattle.ick_source.specs.Position.{left_at, next_lead}
 use Rattle.ick_source.proofs.GrammarLaws.{found}
@@ -44,9 +45,10 @@ walks_yields a now = record {
   added = λ to x p f. sym (append-nil now.marks.items);
 }
 
-pub walks_nothing : {A : Type 0} (old new : Walker) (ms : List Mark) → Keeps old new → Walks {A = A} nothing old new ms
+pub walks_nothing : {A : Type 0} {w : Wanted} (old new : Walker) (ms : List Mark) → Keeps old new →
+    Walks {A = A} (nothing w) old new ms
 unfolding stands
-walks_nothing {A} old new ms k = record { keeps = k; goes = λ to x p. absurd p; added = λ to x p f. absurd p }
+walks_nothing old new ms k = record { keeps = k; goes = λ to x p. absurd p; added = λ to x p f. absurd p }
 
 -- a walk over a grammar that has nothing more than another one
 pub walks_within : {A B : Type 0} (g : Grammar A) (h : Grammar B) (old new : Walker) (ms : List Mark) →
@@ -58,10 +60,10 @@ walks_within g h old new ms fewer w = record {
   added = λ to y p f. let q = fewer to y p in w.added to q.0 q.1 f;
 }
 
-pub walks_when : {A : Type 0} (b : Bool) (g : Grammar A) (old new : Walker) (ms : List Mark) → Walks g old new ms →
-    Walks (when b g) old new ms
-walks_when true g old new ms w = w
-walks_when false g old new ms w = walks_nothing old new ms w.keeps
+pub walks_when : {A : Type 0} (v : Wanted) (b : Bool) (g : Grammar A) (old new : Walker) (ms : List Mark) →
+    Walks g old new ms → Walks (when v b g) old new ms
+walks_when v true g old new ms w = w
+walks_when v false g old new ms w = walks_nothing old new ms w.keeps
 
 -- one part after another
 pub walks_then : {A B : Type 0} (g : Grammar A) (f : A → Grammar B) (old mid new : Walker) (ms ns : List Mark) →

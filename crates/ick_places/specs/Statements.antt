@@ -24,11 +24,11 @@ abbrev pub statement_marks : (source : List ℕ) → (from to begin : ℕ) → O
 statement_marks source from to begin None = whole from to ∷ []
 statement_marks source from to begin (Some b) = body_marks source (characters (drop begin source))
 
--- the marks of a body, if it begins at a byte, or of the whole if there is none
-abbrev pub AreBodyMarks : (source : List ℕ) → (from to begin : ℕ) → Option BodyTree → List Mark → Type 0
-AreBodyMarks source from to begin None marks = marks ≡ whole from to ∷ []
-AreBodyMarks source from to begin (Some b) marks =
-    (last : ℕ) → IsBodyIn source begin last b → marks ≡ body_marks source (characters (drop begin source))
+-- the marks of the body that begins at a byte, if the statement is recognised, or of the whole if it isn't
+abbrev pub AreBodyMarks : (source : List ℕ) → (from to begin : ℕ) → (recognised : Bool) → List Mark → Type 0
+AreBodyMarks source from to begin false marks = marks ≡ whole from to ∷ []
+AreBodyMarks source from to begin true marks =
+    (last : ℕ) (b : BodyTree) → IsBodyIn source begin last b → marks ≡ body_marks source (characters (drop begin source))
 
 -- the statement's text, its head, and the marks of its body
 pub record IsPlaced (source : List ℕ) (at : ℕ) (t : StatementTree) (p : Places) : Type 0 where

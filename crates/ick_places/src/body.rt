@@ -15,6 +15,7 @@ ghost use Rattle.ick_source.specs.BodyGrammar.{names, place_by, scalar_bodies, v
 ghost use Rattle.ick_source.specs.BodyGrammar.{wholes, worded_by};
 ghost use Rattle.ick_source.specs.Grammar.{among, looks, separated, sequence};
 ghost use Rattle.ick_source.specs.Position.{left_at, past_lead};
+ghost use Rattle.ick_source.specs.declared.wanted.Wanted.TheVariants as wanted;
 ghost use Rattle.ick_syntax.specs.BodyTree.{BodyTree};
 ghost use Rattle.ick_syntax.specs.declared.tree.Name.{Name};
 ghost use Rattle.ick_syntax.specs.Gerund.{gerund_word};
@@ -83,7 +84,7 @@ impl<'a> Walker<'a> {
     /// Passes the word of a gerund, its first if it has two, and returns the gerund.
     fn first_word(&mut self) -> Option<Gerund>
         ensures keeps { Keeps self.old self.new }
-        ensures finds { Finds (among gerund_word all_gerunds) self.old self.new result }
+        ensures finds { Finds (among wanted.Gerund gerund_word all_gerunds) self.old self.new result }
         ensures same { HasMarksOf self.old self.new }
     {
         for gerund in Gerund::ALL {

@@ -6,7 +6,7 @@ ghost use Rattle.ick_places.specs.Statements.{is_recognised, whole};
 ghost use Rattle.ick_source.specs.Boundaries.{IsStart};
 ghost use Rattle.ick_source.specs.Statements.{IsStatement};
 ghost use Rattle.ick_syntax.specs.BodyTree.{body_tree_of};
-ghost use Rattle.ick_syntax.specs.StatementTree.{statement_tree_of};
+ghost use Rattle.ick_syntax.specs.StatementTree.{StatementTree, statement_tree_of};
 
 use crate::head::{Head, Span, head_at};
 use crate::mark::{Mark, Part};
@@ -57,7 +57,7 @@ fn body_marks_of(
     body: &Body,
 ) -> Result<Vec<Mark>, NoMemory>
     ensures { IfOk result (λ marks. AreBodyMarks source.now whole.from whole.to begin
-        (body_tree_of body.now) marks.items) }
+        (is_recognised (body_tree_of body.now)) marks.items) }
 {
     if !recognises(body) {
         return whole_mark(alloc, whole.from, whole.to);
@@ -65,8 +65,10 @@ fn body_marks_of(
     marks_of(alloc, source, begin)
 }
 
-/// Finds the parts of the statement whose text begins at byte `at` of the source. The places have
-/// no meaning if the source has another text there. Refuses with `NoMemory` if memory runs out.
+/// Finds the parts of the statement whose text begins at byte `at` of the source. Of the statement
+/// only its text counts, and whether it is recognised, so numbers in it may be clamped. The places
+/// have no meaning if the source has another text there. Refuses with `NoMemory` if memory runs
+/// out.
 pub fn place_statement(
     alloc: Global,
     source: &[u8],
@@ -74,9 +76,10 @@ pub fn place_statement(
     statement: &Statement<'_>,
 ) -> Result<Places, NoMemory>
     requires { at ≤ length source.now }
-    ensures placed { IfOk result (λ p. (to : ℕ) →
-        IsStatement source.now at to (statement_tree_of statement.now) →
-        IsPlaced source.now at (statement_tree_of statement.now) p) }
+    ensures placed { IfOk result (λ p. (to : ℕ) (t : StatementTree) →
+        IsStatement source.now at to t → t.text ≡ statement.now.text.now →
+        is_recognised t.body ≡ is_recognised (body_tree_of statement.now.body) →
+        IsPlaced source.now at t p) }
     ensures front { IfOk result (λ p. (IsStart source.now at → ⊥) →
         IsPlacedFront at (statement_tree_of statement.now) p) }
 {

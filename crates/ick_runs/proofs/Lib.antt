@@ -3,7 +3,6 @@ pub mod DrawLaws
 pub mod SeededLaws
 pub mod ChosenLaws
 pub mod DriveLaws
-pub mod LineLaws
 pub mod OutputLaws
 pub mod StreamLaws
 mod Rows

@@ -15,8 +15,8 @@ use Rattle.ick_code.proofs.Frames.{advance_frame}
 use Rattle.ick_backtrack.specs.Machine.{Program, Machine}
 use Rattle.ick_backtrack.specs.Asked.{Finish, finished, at_limit, IsGoing}
 use Rattle.ick_backtrack.specs.Steps.{after_steps, IsPlain, RunsOn}
-use Rattle.ick_backtrack.specs.declared.feed_fault.FeedFault.{FeedFault}
-use Rattle.ick_backtrack.specs.declared.feed_fault.FeedFault.TheVariants.{NoMemory as FeedOutOfMemory, Read as NotRead}
+use Rattle.ick_devices.specs.declared.feed_fault.FeedFault.{FeedFault}
+use Rattle.ick_devices.specs.declared.feed_fault.FeedFault.TheVariants.{NoMemory as FeedOutOfMemory, Read as NotRead}
 use Rattle.ick_explorer.specs.Errors.{error_of}
 use Rattle.ick_explorer.specs.declared.errors.RunsError.TheVariants.{Read}
 use Rattle.ick_machine.specs.LiveAsk.{end_kind_of, live_asked}

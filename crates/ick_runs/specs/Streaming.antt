@@ -1,6 +1,5 @@
 -- Describes the progress of a streamed run, for private contracts.
-use Rattle.std.specs.Prelude.{◌≡◌, ◌==◌, ℕ, ◌<◌, ◌≤◌, Bool, true, false, List, ◌++◌, length}
-use Rattle.std.specs.Prelude.{take, get_or, Result, Ok, Err}
+use Rattle.std.specs.Prelude.{◌≡◌, ℕ, ◌≤◌, Bool, true, List, ◌++◌, length, take, Result, Ok, Err}
 use Rattle.ick_code.specs.meaning.State.{State}
 use Rattle.ick_code.specs.Laws.{after_output}
 use Rattle.ick_backtrack.specs.Machine.{Program}
@@ -9,10 +8,6 @@ use Rattle.ick_explorer.specs.Paths.{Leads}
 use Rattle.ick_explorer.specs.Runs.{Execution}
 use Rattle.ick_runs.specs.Streams.{stop_kind, stop_message}
 use Rattle.ick_explorer.specs.declared.errors.RunsError.{RunsError}
-
--- none of these bytes ends a line
-abbrev pub HasNoEnd : List ℕ → Type 0
-HasNoEnd bytes = (k : ℕ) → k < length bytes → (get_or bytes k 0 == 10) ≡ false
 
 -- n steps of the run of c are made, and all its output is written but the output that the machine holds
 pub record IsAlong (told : Bool) (p : Program) (s : State) (limit : ℕ) (c : List Bool) (now : State)

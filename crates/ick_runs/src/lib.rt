@@ -6,7 +6,7 @@
 //! | `ordinary` | one run with given choices |
 //! | `draws`, `seeded` | one run whose choices a seed draws |
 //! | `chooser`, `drive` | the choices of a run, from a list or a seed, and a run by them |
-//! | `feeds` | a source of bytes as the input of a machine |
+//! | `sink_outlet` | a sink of bytes as the outlet of a machine |
 //! | `streamed` | one run whose input and output are streams |
 //! | `laws` | the law of draws |
 #![tactic(auto)]
@@ -14,19 +14,18 @@
 mod chooser;
 mod draws;
 mod drive;
-mod feeds;
 mod laws;
 mod ordinary;
 mod seeded;
+mod sink_outlet;
 mod streamed;
 
 pub use chooser::Chooser;
 pub use draws::drawn;
-pub use feeds::SourceFeed;
+pub use ick_devices::{ByteSink, ByteSource, DeviceFault, SliceSource, VecSink};
 pub use ick_explorer::{
-    ByteSink, ByteSource, Cursor, DeviceFault, Explorer, Listed2, ReadFault, Run, RunsError,
-    SliceSource, VecSink, line_length, one_listing, one_order, one_reading, read_first,
-    runs_are_limited, write_runs, write_whole,
+    Cursor, Explorer, Listed2, Run, RunsError, one_listing, one_order, one_reading,
+    runs_are_limited, write_runs,
 };
 pub use laws::one_drawing;
 pub use ordinary::{Ran, run_from, run_with};

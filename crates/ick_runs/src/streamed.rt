@@ -13,10 +13,11 @@ ghost use Rattle.ick_runs.specs.Streaming.{Stops};
 ghost use Rattle.ick_explorer.specs.Writes.{write_failures};
 
 use crate::chooser::{Chooser, Picker};
-use crate::feeds::{SinkOutlet, SourceFeed};
+use crate::sink_outlet::SinkOutlet;
 use ick_code::Code;
-use ick_explorer::{ByteSink, ByteSource, RunsError};
-use ick_machine::{EndKind, Feed, Live, LiveAsk, RunFault};
+use ick_devices::{ByteSink, ByteSource, Feed, SourceFeed};
+use ick_explorer::RunsError;
+use ick_machine::{EndKind, Live, LiveAsk, RunFault};
 use std::alloc::Global;
 
 /// Holds the result of a streamed run.

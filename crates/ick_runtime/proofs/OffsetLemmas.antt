@@ -2,7 +2,7 @@
 use Rattle.std.proofs.Common.{[], add-mul, ap, ap₂, arith, bit_and, Bool, drop, false, get_or, if◌then◌else◌, leb-true, length, List, lt-ltb, mul-add, mul-one}
 use Rattle.std.proofs.Common.{mul_assoc, nat_le, nat_lt, None, Option, option_and_then, option_map, refl, rules, Some, suc, sym, true, zero, ℕ}
 use Rattle.std.proofs.{Common.{◌&&◌, ◌*◌, ◌+◌, ◌-◌, ◌<◌, ◌^◌, ◌∙◌, ◌∷◌, ◌≡◌, ◌≤◌}, lemmas.Nat.and_mask}
-use Rattle.ick_runtime.proofs.Names.{Array, bound_of, common_steps, drop_of_length-le, element_offset, nat_tests, number_of, product}
+use Rattle.ick_runtime.proofs.Names.{Array, bound_of, common_steps, drop_of_length-le, element_offset, get_or-map, nat_tests, number_of, product}
 use Rattle.ick_runtime.proofs.{Names.{length-map, reg, sized, Value, values_of, Wide}, Maps.both_true}
 use Rattle.ick_code.specs.meaning.Value.{offset_at}
 use Rattle.ick_runtime.specs.Elements.{stride}
@@ -98,6 +98,16 @@ walk_next ds vs p at d n v low high is_d is_v is_n = grind (arith, common_steps)
 pub walk_done : (ds : List ℕ) (vs : List Value) (p at : ℕ) → length ds ≤ at → length vs ≤ at →
     Some p ≡ walk p (drop at ds) (drop at vs)
 walk_done ds vs p at low high = sym (ap₂ (walk p) (drop_of_length-le ds low) (drop_of_length-le vs high))
+
+pub walk_last : (ds : List ℕ) (vs : List Value) (at : ℕ) (o : Option ℕ) → length ds ≤ at → length vs ≤ at →
+    o ≡ option_and_then (λ next. walk next (drop at ds) (drop at vs)) o
+walk_last ds vs at None low high = refl
+walk_last ds vs at (Some p) low high = walk_done ds vs p at low high
+
+pub value_at : (subscripts regs : List ℕ) (at : ℕ) → at < length subscripts →
+    Wide (reg regs (get_or subscripts at 0))
+    ≡ get_or (values_of subscripts regs) at (Wide (reg regs (get_or subscripts at 0)))
+value_at subscripts regs at low = search (rules, get_or-map)
 
 pub is_inside : (p count : ℕ) → p < count → Some p ≡ inside count (Some p)
 is_inside p count below = ap (λ b. if b then Some p else None) (sym (lt-ltb p count below))

@@ -18,20 +18,20 @@ first_more : (at n : ℕ) (xs ys : List ℕ) → n ≡ at + 1 → at < length xs
 first_more at n xs ys next there s = search rules
 
 -- views that are alike
-pub alike : {base deep : ℕ} {v w : View} → SameFirst base v.registers w.registers → w.home ≡ v.home →
+pub alike : {base deep : ℕ} {v w : View} → SameFirst base v.registers w.registers → w.store_target ≡ v.store_target →
     w.statuses ≡ v.statuses → PartsLike v.parts w.parts → SameFirst deep v.returns w.returns → Like base deep v w
-alike registers home statuses parts returns = search rules
+alike registers store_target statuses parts returns = search rules
 
 pub like_refl : (base deep : ℕ) (v : View) → Like base deep v v
 like_refl base deep v = alike (first_refl base v.registers) refl refl (parts_refl v.parts) (first_refl deep v.returns)
 
 pub like_moved : {base deep : ℕ} {v w : View} (place depth : ℕ) → Like base deep v w →
     Like base deep v (record w { place = place; depth = depth })
-like_moved place depth a = alike a.registers a.home a.statuses a.parts a.returns
+like_moved place depth a = alike a.registers a.store_target a.statuses a.parts a.returns
 
 with_parts : {base deep : ℕ} {v w : View} {p q : Parts} → Like base deep v w → PartsLike p q →
     Like base deep (record v { parts = p }) (record w { parts = q })
-with_parts l parts = alike l.registers l.home l.statuses parts l.returns
+with_parts l parts = alike l.registers l.store_target l.statuses parts l.returns
 
 -- what can be undone from a view can be undone from each one like it
 pub alike_rewinds : {base low k : ℕ} {changes : List Change} {v w m : View} → Like base low v w →
@@ -75,7 +75,7 @@ undone_like base low (change_of (entry.ScalarTaken slot number)) v w below can l
 undone_like base low (change_of (entry.ScalarRestored slot number old)) v w below can l = grind (arith, common_steps)
 undone_like base low (change_of (entry.ArraySaved slot)) v w below can l = grind (arith, common_steps, arrays_alike, taken_off_like, with_parts)
 undone_like base low (array_was change slot old) v w below can l = grind (arith, common_steps)
-undone_like base low (statuses_were old) v w below can l = alike l.registers l.home refl l.parts l.returns
+undone_like base low (statuses_were old) v w below can l = alike l.registers l.store_target refl l.parts l.returns
 undone_like base low (change_of (entry.Taken old)) v w below can l = search rules
 undone_like base low (change_of (entry.Output count)) v w below can l = search rules
 undone_like base low (change_of (entry.Last old)) v w below can l = search rules
@@ -96,14 +96,14 @@ notes_back base changes low k change v m below can h = search (rules, noted, und
 pub put_back : (xs : List ℕ) (at n : ℕ) → slice_set (slice_set xs at n) at (get_or xs at 0) ≡ xs
 put_back xs at n = set-set xs at n (get_or xs at 0) ∙ set-get_or xs at 0
 
--- undoing the change of a register, of a home and of a status
+-- undoing the change of a register, of a store_target and of a status
 pub register_back : (at number : ℕ) (registers : List ℕ) (v : View) → v.registers ≡ registers →
     undone (register_was at (get_or registers at 0)) (record v { registers = slice_set registers at number }) ≡ v
 register_back at number registers v same = search (rules, put_back)
 
 pub home_back : (at number : ℕ) (v : View) →
-    undone (home_was at (get_or v.home at 0)) (record v { home = slice_set v.home at number }) ≡ v
-home_back at number v = ap {A = List ℕ} (λ l. record v { home = l }) (put_back v.home at number)
+    undone (home_was at (get_or v.store_target at 0)) (record v { store_target = slice_set v.store_target at number }) ≡ v
+home_back at number v = ap {A = List ℕ} (λ l. record v { store_target = l }) (put_back v.store_target at number)
 
 pub status_back : (at number : ℕ) (v : View) →
     undone (status_was at (get_or v.statuses at 0)) (record v { statuses = slice_set v.statuses at number }) ≡ v

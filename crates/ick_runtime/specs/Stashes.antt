@@ -28,10 +28,10 @@ pub record ChangesAt {A : Type 0} (slot : ℕ) (P : Stash A → Stash A → Type
   pub here : P (get_or old slot no_stash) (get_or new slot no_stash)
 
 -- the newest number of a stash became the number of its scalar, unless stores to it lead elsewhere
-pub record IsRestoredTo (slot home : ℕ) (registers after : List ℕ) (old new : List (Stash ℕ)) : Type 0 where
+pub record IsRestoredTo (slot store_target : ℕ) (registers after : List ℕ) (old new : List (Stash ℕ)) : Type 0 where
   pub number : ℕ
   pub taken : ChangesAt slot (IsTakenOff number) old new
-  pub registers_are : after ≡ (if home == slot then slice_set registers slot number else registers)
+  pub registers_are : after ≡ (if store_target == slot then slice_set registers slot number else registers)
 
 -- an array was exchanged for the newest one of its stash
 pub record IsExchanged (slot : ℕ) (arrays after : List Array) (old new : List (Stash Array)) : Type 0 where

@@ -92,7 +92,7 @@ undone_array now.Restored slot old p =
 -- the view before a change
 abbrev pub undone : Change → View → View
 undone (change_of (entry.Register at old)) v = record v { registers = slice_set v.registers at old }
-undone (change_of (entry.Home at old)) v = record v { home = slice_set v.home at old }
+undone (change_of (entry.Home at old)) v = record v { store_target = slice_set v.store_target at old }
 undone (change_of (entry.Status at old)) v = record v { statuses = slice_set v.statuses at old }
 undone (change_of (entry.Return at old)) v = record v { returns = slice_set v.returns at old }
 undone (change_of (entry.Element slot at old)) v = with_arrays (with_number v.parts.arrays slot at old) v
@@ -155,7 +155,7 @@ pub record SameFirst (n : ℕ) (xs ys : List ℕ) : Type 0 where
 -- on, and in what is spare behind stashed values alone
 pub record Like (base deep : ℕ) (v w : View) : Type 0 where
   pub registers : SameFirst base v.registers w.registers
-  pub home : w.home ≡ v.home
+  pub store_target : w.store_target ≡ v.store_target
   pub statuses : w.statuses ≡ v.statuses
   pub parts : PartsLike v.parts w.parts
   pub returns : SameFirst deep v.returns w.returns

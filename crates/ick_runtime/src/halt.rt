@@ -26,7 +26,7 @@ impl From<NoMemory> for Halt {
 }
 
 /// Returns what an instruction that stores a number comes to, by the fault of the store.
-pub fn stored(fault: Option<FaultKind>) -> Result<(), Halt>
+pub fn fault_result(fault: Option<FaultKind>) -> Result<(), Halt>
     ensures { result ≡ result_of fault }
 {
     match fault {

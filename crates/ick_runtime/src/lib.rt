@@ -2,7 +2,7 @@
 //!
 //! - `memory`: the state of a run, as lists
 //! - `fresh`: the memory in which a run begins
-//! - `cursor`: where a run is, and the registers that it sets
+//! - `point`: where a run is, and the registers that it sets
 //! - `calculate`: the numbers that calculations give
 //! - `array`: arrays: their elements, and whether they are ignored
 //! - `subscripts`: the subscripts of an element
@@ -16,11 +16,11 @@
 mod array;
 mod calculate;
 mod change;
-mod cursor;
 mod fresh;
 mod halt;
 mod memory;
 mod notes;
+mod point;
 mod returns;
 mod stash;
 mod subscripts;
@@ -31,12 +31,12 @@ pub use array::{
 };
 pub use calculate::{calculated, calculation};
 pub use change::{ArrayChange, Entry};
-pub use cursor::{Cursor, put, set_register};
 pub use fresh::fresh_memory;
-pub use halt::{Halt, stored};
-pub use memory::{Array, Memory, Rest, Stash};
+pub use halt::{Halt, fault_result};
+pub use memory::{Array, Memory, Parts, Stash};
 pub use notes::{Nobody, Notes};
-pub use returns::{is_there, rupture};
+pub use point::{RunPoint, put, set_register};
+pub use returns::{can_pop, resume_fault};
 pub use stash::{
     drop_at, exchange, put_at, restore_array, restore_scalar, save_array, save_scalar,
 };

@@ -7,7 +7,7 @@ use ick_bits::FaultKind;
 
 /// Returns whether so many can be popped, and at least one.
 #[inline(always)]
-pub fn is_there(number: usize, depth: usize) -> bool
+pub fn can_pop(number: usize, depth: usize) -> bool
     ensures { MatchBool result ((0 < number) × (number ≤ depth))
         ((number ≡ 0) ⊎ (depth < number)) }
 {
@@ -16,7 +16,7 @@ pub fn is_there(number: usize, depth: usize) -> bool
 
 /// Returns the fault of popping so many.
 #[cold]
-pub fn rupture(number: usize) -> FaultKind
+pub fn resume_fault(number: usize) -> FaultKind
     ensures { result ≡ rupture_of number }
 {
     if number == 0 {

@@ -233,16 +233,16 @@ pub fn save_array<N: Notes>(
 #[tactic(auto, using(crate::proofs::StashingLemmas::stashing))]
 pub fn restore_scalar<N: Notes>(
     registers: &mut [u32],
-    home: &[u32],
+    store_target: &[u32],
     stashes: &mut Vec<Stash<u32>>,
     notes: &mut N,
     slot: u32,
 ) -> bool
     requires slot { slot < length stashes.old.items }
-    requires home { slot < length home.now }
+    requires store_target { slot < length store_target.now }
     requires there { slot < length registers.old }
     requires room { 0 < N.room notes.old }
-    ensures restored { OnTrue result (IsRestoredTo slot (get_or home.now slot 0) registers.old
+    ensures restored { OnTrue result (IsRestoredTo slot (get_or store_target.now slot 0) registers.old
         registers.new (map numbers_of stashes.old.items) (map numbers_of stashes.new.items)) }
     ensures none { OnFalse result (used (get_or (map numbers_of stashes.old.items) slot no_stash)
         ≡ []) }
@@ -261,7 +261,7 @@ pub fn restore_scalar<N: Notes>(
     // `notes` needs that views that are alike are undone alike.
     notes.law();
     notes.note(Entry::ScalarRestored(slot, number, registers[slot as usize]));
-    if home[slot as usize] == slot {
+    if store_target[slot as usize] == slot {
         registers[slot as usize] = number;
     }
     true

@@ -9,7 +9,7 @@ use mathlib.Core.Logic.{∥∥₁_elim}
 use Rattle.ick_explorer.specs.declared.errors.RunsError.{RunsError}
 use Rattle.ick_explorer.specs.declared.errors.RunsError.TheVariants.{NoMemory, WorkFull}
 use Rattle.ick_step.specs.History.{choices_in}
-use Rattle.ick_step.specs.Session.{Seen, later}
+use Rattle.ick_step.specs.Seen.{Seen, later}
 
 joined : (xs ys : List (Option Bool)) → choices_in (xs ++ ys) ≡ choices_in xs ++ choices_in ys
 joined xs ys = filter_map-append (λ a. a) xs ys

@@ -1,4 +1,7 @@
 pub mod CountLaws
+pub mod LabelLaws
+pub mod OutcomeLaws
+pub mod EvaluatedLaws
 pub mod AnswerLaws
 pub mod WordLaws
 pub mod GivenLaws

@@ -6,18 +6,20 @@ use Rattle.std.proofs.Math.Nat.{suc-mul}
 use Rattle.std.proofs.lemmas.List.{length-append, length-take}
 use Rattle.ick_code.specs.meaning.State.{State}
 use Rattle.ick_syntax.specs.declared.tree.Name.{Name}
-use Rattle.ick_inspect.specs.declared.positions.Position.{Position}
-use Rattle.ick_step.specs.Session.{Seen}
+use Rattle.ick_inspect.specs.declared.positions.LineColumn.{LineColumn}
+use Rattle.ick_step.specs.Seen.{Seen}
 use Rattle.ick_session.specs.Answers.{Answers, AnswersCommand, Chooses, Explains, Goes, GoesOut, StopsShort, at_limit}
 use Rattle.ick_session.specs.Answers.{changed, changes_settings, changes_state, chooses, goes_out, no_return, not_asked}
 use Rattle.ick_session.specs.Answers.{not_changed}
-use Rattle.ick_session.specs.Breakpoints.{AnswersBreakpoint, deletes, deletes_all, has_none, no_statement, sets}
-use Rattle.ick_session.specs.Commands.{Order, to_break, to_choose, to_delete, to_delete_all, to_explain, to_go_back}
+use Rattle.ick_session.specs.Breakpoints.{AnswersBreakpoint, deletes, deletes_all, has_none, no_label, no_statement}
+use Rattle.ick_session.specs.Breakpoints.{sets, sets_label}
+use Rattle.ick_session.specs.Commands.{Order, to_break, to_break_label, to_choose, to_delete, to_delete_all}
+use Rattle.ick_session.specs.Commands.{to_evaluate, to_explain, to_go_back}
 use Rattle.ick_session.specs.Commands.{to_go_out, to_help, to_list, to_next, to_print}
 use Rattle.ick_session.specs.Commands.{to_quit, to_run, to_run_until, to_show_cursor, to_show_output, to_show_stack}
 use Rattle.ick_session.specs.Commands.{to_show_state, to_step, to_watch}
 use Rattle.ick_session.specs.Lines.{AnswersLine, Talks, answered, full, no_command, no_line, one_more, quits, short}
-use Rattle.ick_session.specs.Stepper.{Settings, HasNoRoom}
+use Rattle.ick_session.specs.Session.{Settings, HasNoRoom}
 use Rattle.ick_session.specs.Travel.{CameSoFar, IsAt, IsBefore}
 
 one_more_time : (n c : ℕ) → (n + 1) * c ≡ n * c + c
@@ -26,7 +28,7 @@ one_more_time n c =
     ap (λ m. m * c) next ∙ suc-mul n c
 
 -- a session that has kept within its limit still does so
-module _ (f : Settings) (positions : List Position) where
+module _ (f : Settings) (positions : List LineColumn) where
   on_within : (here : State → Bool) (most : ℕ) (s t : Seen) (text : List ℕ) → Goes f positions here most s t text →
       length s.answers ≤ f.limit → length t.answers ≤ f.limit
   on_within here most s t text h low = omega (arith, h.0.on.within)
@@ -73,6 +75,8 @@ module _ (f : Settings) (positions : List Position) where
   short_within s (to_explain name) t h low = short_back_within s t h low
   short_within s (to_choose done) t h low = same_within s t h low
   short_within s (to_break n) t h low = same_within s t h low
+  short_within s (to_break_label label) t h low = same_within s t h low
+  short_within s (to_evaluate expression) t h low = same_within s t h low
   short_within s (to_delete n) t h low = same_within s t h low
   short_within s to_delete_all t h low = same_within s t h low
   short_within s (to_print names) t h low = same_within s t h low
@@ -90,6 +94,8 @@ module _ (f : Settings) (positions : List Position) where
   command_within s (to_run n) t text h low = on_within _ _ s t h.0 h.1 low
   command_within s to_go_out t text h low = out_within s t text h low
   command_within s (to_break n) t text h low = same_within s t h.0 low
+  command_within s (to_break_label label) t text h low = same_within s t h.0 low
+  command_within s (to_evaluate expression) t text h low = same_within s t h.0 low
   command_within s (to_delete n) t text h low = same_within s t h.0 low
   command_within s to_delete_all t text h low = same_within s t h.0 low
   command_within s (to_run_until n) t text h low = on_within _ _ s t text h low
@@ -113,15 +119,17 @@ module _ (f : Settings) (positions : List Position) where
   answer_within s order g t text (changes_settings h words e) low = low
 
 -- the settings keep their limit
-set_limit : (f : Settings) (positions : List Position) (order : Order) (g : Settings) (text : List ℕ) →
+set_limit : (f : Settings) (positions : List LineColumn) (order : Order) (g : Settings) (text : List ℕ) →
     AnswersBreakpoint f positions order g text → g.limit ≡ f.limit
 set_limit f positions order g text (sets n h some e) = ap (λ x. x.limit) e.same
 set_limit f positions order g text (no_statement n none) = refl
+set_limit f positions order g text (sets_label label h some e) = ap (λ x. x.limit) e.same
+set_limit f positions order g text (no_label label none) = refl
 set_limit f positions order g text (deletes n h some e) = ap (λ x. x.limit) e.same
 set_limit f positions order g text (has_none n none) = refl
 set_limit f positions order g text (deletes_all h e) = ap (λ x. x.limit) e.same
 
-answer_limit : (f : Settings) (positions : List Position) (s : Seen) (order : Order) (g : Settings) (t : Seen)
+answer_limit : (f : Settings) (positions : List LineColumn) (s : Seen) (order : Order) (g : Settings) (t : Seen)
     (text : List ℕ) → Answers f positions s order g t text → g.limit ≡ f.limit
 answer_limit f positions s order g t text (changes_state u words h) = refl
 answer_limit f positions s order g t text (changes_settings h words e) = set_limit f positions order g text e
@@ -132,7 +140,7 @@ record Adds (f g : Settings) (s t : Seen) (most : ℕ) : Type 0 where
   within : length t.answers ≤ f.limit
   few : t.work ≤ s.work + most
 
-line_adds : (f : Settings) (positions : List Position) (s : Seen) (line : List ℕ) (g : Settings) (t : Seen)
+line_adds : (f : Settings) (positions : List LineColumn) (s : Seen) (line : List ℕ) (g : Settings) (t : Seen)
     (text : List ℕ) (goes_on : Bool) → AnswersLine f positions s line g t text goes_on →
     length s.answers ≤ f.limit → Adds f g s t (f.limit + 3000)
 line_adds f positions s line g t text goes_on (no_command e) low =
@@ -149,7 +157,7 @@ line_adds f positions s line g t text goes_on (full order is proper none room) l
 line_adds f positions s line g t text goes_on (short order u is proper few h) low =
     record { limit = refl; within = short_within f positions s order u h low; few = omega (arith, few) }
 
-lines_add : (f : Settings) (positions : List Position) (s : Seen) (lines : List (List ℕ)) (g : Settings) (t : Seen)
+lines_add : (f : Settings) (positions : List LineColumn) (s : Seen) (lines : List (List ℕ)) (g : Settings) (t : Seen)
     (text : List ℕ) → Talks f positions s lines g t text → length s.answers ≤ f.limit →
     Adds f g s t (length lines * (f.limit + 3000))
 lines_add f positions s lines g t text (no_line u) low =
@@ -165,7 +173,7 @@ lines_add f positions s lines g t text (one_more h i r u v before line words mor
       few = omega (arith, so_far.few, last.few, so_far.limit, grown);
     }
 
-pub room_left : (f g : Settings) (positions : List Position) (s t : Seen) (lines : List (List ℕ)) (text : List ℕ) →
+pub room_left : (f g : Settings) (positions : List LineColumn) (s t : Seen) (lines : List (List ℕ)) (text : List ℕ) →
     Talks f positions s lines g t text → length s.answers ≤ f.limit →
     s.work + (length lines + 1) * (f.limit + 3000) < 2 ^ 64 → ¬ HasNoRoom f.limit t
 room_left f g positions s t lines text talks low room =

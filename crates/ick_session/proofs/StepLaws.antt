@@ -285,8 +285,8 @@ had_left p code s chosen name is none =
     (names_aside (code_slots code) name (ops_at code s.place) none)
 
 -- what is seen of a state at a name is alike if it is the same
-alike_same : (h : Had) → alike h h ≡ true
-alike_same h =
+pub alike_itself : (h : Had) → alike h h ≡ true
+alike_itself h =
     rw (
       eq-eqb h.number h.number refl,
       beq_same h.ignored,
@@ -310,7 +310,7 @@ changed_among : (p : List StatementTree) (code : Code) (s : State) (chosen : Boo
 changed_among p code s chosen name is differs true at = refl
 changed_among p code s chosen name is differs false at =
     let same : alike (had_at s name) (had_at (advance p s chosen) name) ≡ true =
-    ap (alike (had_at s name)) (had_left p code s chosen name is at) ∙ alike_same (had_at s name) in
+    ap (alike (had_at s name)) (had_left p code s chosen name is at) ∙ alike_itself (had_at s name) in
     absurd (cc)
 
 pub changed_has_piece : (f : Name → List ℕ) (p : List StatementTree) (code : Code) (s : State) (chosen : Bool)

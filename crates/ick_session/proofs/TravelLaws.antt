@@ -3,9 +3,9 @@ use Rattle.std.proofs.Common.{◌≡◌, ℕ, zero, suc, ◌+◌, ◌-◌, ◌<�
 use Rattle.std.specs.Prelude.{Result, Ok, Err, IfErr, OnErr, min}
 use Rattle.ick_explorer.specs.declared.errors.RunsError.{RunsError}
 use Rattle.ick_explorer.specs.declared.errors.RunsError.TheVariants.{NoMemory, WorkFull}
-use Rattle.ick_inspect.specs.declared.positions.Position.{Position}
+use Rattle.ick_inspect.specs.declared.positions.LineColumn.{LineColumn}
 use Rattle.ick_session.specs.Shown.{here_text}
-use Rattle.ick_session.specs.Stepper.{Settings}
+use Rattle.ick_session.specs.Session.{Settings}
 use Rattle.std.proofs.Common.{length, take, get_or, Option, Some, None, refl, ap, ap₂, sym, ◌∙◌, subst, arith}
 use borrow.Author.Count.{below_more}
 use Rattle.std.proofs.lemmas.List.{append-nil, get_or_append_left, length-append, take-append-le, take_all, take_more}
@@ -18,14 +18,15 @@ use Rattle.ick_backtrack.specs.Machine.{Program}
 use Rattle.ick_backtrack.specs.Steps.{IsPlain}
 use Rattle.ick_runs.specs.Chosen.{Chosen}
 use Rattle.ick_step.specs.History.{Answers, IsHistory, after, asks_choice, choices_in, done_by}
-use Rattle.ick_step.specs.Session.{Seen, later, present, with_answer}
+use Rattle.ick_step.specs.Seen.{Seen, later, present, with_answer}
 use Rattle.std.specs.Prelude.{◌&&◌, ◌==◌}
 use Rattle.std.proofs.lemmas.Bool.Decides.{nat_tests}
 use Rattle.std.proofs.lemmas.Slice.Eq.{bytes_eq-Decides}
 use Rattle.std.specs.Bool.{beq}
+use Rattle.ick_session.proofs.StepLaws.{alike_itself}
 use Rattle.ick_session.specs.Changes.{Had, alike, had_at}
-use Rattle.ick_session.specs.Held.{Keeps, had}
-use Rattle.ick_session.specs.declared.held.Held.{Held}
+use Rattle.ick_session.specs.NameSnapshot.{Keeps, had}
+use Rattle.ick_session.specs.declared.name_snapshot.NameSnapshot.{NameSnapshot}
 use Rattle.ick_session.specs.Travel.{CameSoFar, GoesOn, IsAt, IsBefore, IsLastChange, LastChange, Steps, comes, last_statement}
 use Rattle.ick_session.specs.Travel.{StopsFirst, answer_at, answer_to, differs, is_kept, next_answer, state_after}
 use Rattle.ick_session.specs.Travel.{breakpoint_text, is_at_breakpoint, limit_text, steps_left, where_text}
@@ -236,12 +237,31 @@ at_next s t u n xs d h e lt f =
     at_more s t u n d h (subst (λ l. n < length l) (sym e) lt) (f ∙ ap (λ l. with_answer (get_or l n d) t) (sym e))
 
 -- the test of what was kept is that of the step
-pub kept_is : (s t u : Seen) (n : ℕ) (name : Name) (held : Held) (r : Bool) → IsAt s t n → IsAt s u (n + 1) →
+pub kept_is : (s t u : Seen) (n : ℕ) (name : Name) (held : NameSnapshot) (r : Bool) → IsAt s t n → IsAt s u (n + 1) →
     Keeps held (present t) name →
     r ≡ alike (had held) (had_at (present u) held.name) → r ≡ is_kept s name n
 kept_is s t u n name held r h g keeps e =
     e ∙ ap₂ alike (keeps.had_is ∙ ap (λ v. had_at v name) (at_state s t n h))
     (ap₂ had_at (at_state s u (n + 1) g) keeps.name_is)
+
+after_one : (p : Program) (s : State) (xs : List (Option Bool)) (a : Option Bool) →
+    after p s (xs ++ a ∷ []) ≡ advance p (after p s xs) (done_by a)
+after_one p s [] a = refl
+after_one p s (x ∷ xs) a = after_one p (advance p s (done_by x)) xs a
+
+-- a step that leaves a name as it was
+pub still_had : (t u : Seen) (a : Option Bool) (held : NameSnapshot) (name : Name) (p : Program) (s v : State) →
+    Keeps held (present t) name → u ≡ with_answer a t → p ≡ t.program → s ≡ present t → v ≡ present u →
+    ((chosen : Bool) → had_at (advance p s chosen) name ≡ had_at s name) →
+    alike (had held) (had_at v held.name) ≡ true
+still_had t u a held name p s v keeps made ep es ev left =
+    let here : present u ≡ advance t.program (present t) (done_by a) =
+    ap present made ∙ after_one t.program t.start t.answers a in
+    let step : had_at (present u) name ≡ had_at (present t) name =
+    ap (λ w. had_at w name) here
+    ∙ (ap₂ (λ q w. had_at (advance q w (done_by a)) name) (sym ep) (sym es) ∙ (left (done_by a) ∙ ap (λ w. had_at w name) es)) in
+    let same : had_at v held.name ≡ had held = ap₂ had_at ev keeps.name_is ∙ (step ∙ sym keeps.had_is) in
+    ap (alike (had held)) same ∙ alike_itself (had held)
 
 pub last_is : (s : Seen) (name : Name) (n : ℕ) → is_kept s name n ≡ false → IsLastChange s name (n + 1) (Some n)
 last_is s name n e = record {
@@ -282,21 +302,21 @@ pub last_some : (s : Seen) (name : Name) (n : ℕ) (last : Option ℕ) (at : ℕ
     IsLastChange s name n last → LastChange s name n at
 last_some s name n last at e h = subst (IsLastChange s name n) e h
 
-pub where_is : (f : Settings) (positions : List Position) (s : Seen) (p : Program) (n : ℕ) (t : State) (there : Bool)
+pub where_is : (f : Settings) (positions : List LineColumn) (s : Seen) (p : Program) (n : ℕ) (t : State) (there : Bool)
     (left : ℕ) → p ≡ s.program → n ≡ length s.answers → t ≡ present s → there ≡ is_at_breakpoint f s →
     left ≡ steps_left f.limit s →
     here_text p positions n t ++ breakpoint_text there ++ limit_text left ≡ where_text f positions s
 where_is f positions s p n t there left e g h i j = rw (e, g, h, i, j) refl
 
 -- a kept name is that of the state that it was kept of
-pub stops_at : (f : Settings) (held : Held) (name : Name) (most : ℕ) (s t : Seen) → Keeps held (present s) name →
+pub stops_at : (f : Settings) (held : NameSnapshot) (name : Name) (most : ℕ) (s t : Seen) → Keeps held (present s) name →
     StopsFirst f.given (comes f (λ v. differs (had held) held.name v)) most s t →
     StopsFirst f.given (comes f (differs (had_at (present s) name) name)) most s t
 stops_at f held name most s t keeps h =
     subst (λ v. StopsFirst f.given (comes f (differs (had_at (present s) name) v)) most s t) keeps.name_is
     (subst (λ v. StopsFirst f.given (comes f (differs v held.name)) most s t) keeps.had_is h)
 
-pub came_at : (f : Settings) (held : Held) (name : Name) (s t : Seen) → Keeps held (present s) name →
+pub came_at : (f : Settings) (held : NameSnapshot) (name : Name) (s t : Seen) → Keeps held (present s) name →
     CameSoFar f (λ v. differs (had held) held.name v) s t →
     CameSoFar f (differs (had_at (present s) name) name) s t
 came_at f held name s t keeps h =
@@ -386,11 +406,11 @@ differs_later name most s t on e = later (eq-or-lt_of_le on.further) where
       let differ = ap (differs (had_at (present s) name) name) (sym state) ∙ e in
       absurd (cc)
 
-pub keeps_in : (held : Held) (s t : State) (name : Name) → s ≡ t → Keeps held s name → Keeps held t name
+pub keeps_in : (held : NameSnapshot) (s t : State) (name : Name) → s ≡ t → Keeps held s name → Keeps held t name
 keeps_in held s t name e h = subst (λ v. Keeps held v name) e h
 
 -- a name that is as it was kept
-pub keeps_on : (held : Held) (s t : State) (name : Name) (r : Bool) → Keeps held s name →
+pub keeps_on : (held : NameSnapshot) (s t : State) (name : Name) (r : Bool) → Keeps held s name →
     r ≡ alike (had held) (had_at t held.name) → r ≡ true → Keeps held t name
 keeps_on held s t name r h e is = record {
   name_is = h.name_is;

@@ -1,7 +1,8 @@
 -- The commands of a session, and the lines that write them.
 use Rattle.std.specs.Prelude.{ℕ, zero, suc, ◌^◌, ◌==◌, ◌&&◌, nat_lt, not, Bool, true, false, List, []}
 use Rattle.std.specs.Prelude.{◌∷◌}
-use Rattle.std.specs.Prelude.{length, drop, find, filter_map, codes, is_some, option_map, option_and_then}
+use Rattle.std.specs.Prelude.{◌-◌, length, drop, find, filter_map, codes, get_or, is_some, option_map}
+use Rattle.std.specs.Prelude.{option_and_then, slice_range}
 use Rattle.std.specs.Prelude.{Option, Some, None, if◌then◌else◌}
 use Rattle.std.specs.List.{list_all, prefix_len, starts_with, take_while}
 use Rattle.std.specs.Str.Parse.{digits_value}
@@ -69,12 +70,14 @@ pub data Order : Type 0 where
   to_run : (most : ℕ) → Order
   to_choose : (done : Bool) → Order
   to_print : (names : List Name) → Order
+  to_evaluate : (expression : List ℕ) → Order
   to_show_stack : Order
   to_show_state : Order
   to_list : Order
   to_watch : (name : Name) → Order
   to_explain : (name : Name) → Order
   to_break : (statement : ℕ) → Order
+  to_break_label : (label : ℕ) → Order
   to_delete : (statement : ℕ) → Order
   to_delete_all : Order
   to_show_output : Order
@@ -94,12 +97,14 @@ order_of (command.Until n) = to_run_until n
 order_of (command.Run n) = to_run n
 order_of (command.Choose done) = to_choose done
 order_of (command.Print text) = to_print (names_of text.now)
+order_of (command.Eval text) = to_evaluate text.now
 order_of command.Stack = to_show_stack
 order_of command.State = to_show_state
 order_of command.List = to_list
 order_of (command.Watch name) = to_watch name
 order_of (command.Why name) = to_explain name
 order_of (command.Break n) = to_break n
+order_of (command.BreakLabel label) = to_break_label label
 order_of (command.Delete n) = to_delete n
 order_of command.DeleteAll = to_delete_all
 order_of command.Output = to_show_output
@@ -110,8 +115,8 @@ order_of command.Quit = to_quit
 -- the verbs in their order, with their words
 abbrev pub verbs : List Verb
 verbs = verb.Step ∷ verb.Back ∷ verb.Next ∷ verb.Out ∷ verb.Until ∷ verb.Run ∷ verb.Break ∷ verb.Delete
-    ∷ verb.Choose ∷ verb.Print ∷ verb.Stack ∷ verb.State ∷ verb.List ∷ verb.Watch ∷ verb.Why ∷ verb.Output
-    ∷ verb.Cursor ∷ verb.Help ∷ verb.Quit ∷ []
+    ∷ verb.Choose ∷ verb.Print ∷ verb.Eval ∷ verb.Stack ∷ verb.State ∷ verb.List ∷ verb.Watch ∷ verb.Why
+    ∷ verb.Output ∷ verb.Cursor ∷ verb.Help ∷ verb.Quit ∷ []
 
 abbrev pub verb_word : Verb → List ℕ
 verb_word verb.Step = codes "step"
@@ -124,6 +129,7 @@ verb_word verb.Break = codes "break"
 verb_word verb.Delete = codes "delete"
 verb_word verb.Choose = codes "choose"
 verb_word verb.Print = codes "print"
+verb_word verb.Eval = codes "eval"
 verb_word verb.Stack = codes "stack"
 verb_word verb.State = codes "state"
 verb_word verb.List = codes "list"
@@ -164,6 +170,15 @@ abbrev pub choice_in : List ℕ → Option Bool
 choice_in text =
     option_and_then (λ n. if n == 0 then Some false else (if n == 1 then Some true else None)) (number_alone text)
 
+-- a label between parentheses, or the number of a statement
+abbrev pub is_labelled : List ℕ → Bool
+is_labelled word = get_or word 0 0 == 40 && get_or word (length word - 1) 0 == 41
+
+abbrev pub break_in : List ℕ → Option Order
+break_in word =
+    if is_labelled word then option_map to_break_label (number_in (slice_range word 1 (length word - 1)))
+    else option_map to_break (number_in word)
+
 -- at least one name, and nothing else
 abbrev pub all_named : List (List ℕ) → Bool
 all_named words = list_all (λ word. is_some (name_in word)) words
@@ -179,10 +194,11 @@ order_by verb.Next rest = if is_blank rest then Some to_next else None
 order_by verb.Out rest = if is_blank rest then Some to_go_out else None
 order_by verb.Until rest = option_map to_run_until (number_alone rest)
 order_by verb.Run rest = option_map to_run (most_in rest)
-order_by verb.Break rest = option_map to_break (number_alone rest)
+order_by verb.Break rest = option_and_then break_in (alone rest)
 order_by verb.Delete rest = if is_blank rest then Some to_delete_all else option_map to_delete (number_alone rest)
 order_by verb.Choose rest = option_map to_choose (choice_in rest)
 order_by verb.Print rest = if are_names rest then Some (to_print (names_of rest)) else None
+order_by verb.Eval rest = if is_blank rest then None else Some (to_evaluate rest)
 order_by verb.Stack rest = if is_blank rest then Some to_show_stack else None
 order_by verb.State rest = if is_blank rest then Some to_show_state else None
 order_by verb.List rest = if is_blank rest then Some to_list else None
@@ -198,3 +214,16 @@ abbrev pub order_in : List ℕ → Option Order
 order_in line =
     if length (first_word line) == 0 then None
     else option_and_then (λ v. order_by v (behind_word line)) (verb_in (first_word line))
+
+-- whether a command makes steps or takes them back
+abbrev pub moves : Order → Bool
+moves (to_step n) = true
+moves (to_go_back n) = true
+moves to_next = true
+moves to_go_out = true
+moves (to_run_until n) = true
+moves (to_run n) = true
+moves (to_choose done) = true
+moves (to_watch name) = true
+moves (to_explain name) = true
+moves order = false

@@ -7,11 +7,11 @@ use Rattle.ick_code.specs.meaning.Move.{advance}
 use Rattle.ick_code.specs.meaning.State.{State}
 use Rattle.ick_backtrack.specs.Machine.{Program}
 use Rattle.ick_inspect.specs.Names.{variable_text}
-use Rattle.ick_inspect.specs.declared.positions.Position.{Position}
-use Rattle.ick_step.specs.Session.{Seen}
+use Rattle.ick_inspect.specs.declared.positions.LineColumn.{LineColumn}
+use Rattle.ick_step.specs.Seen.{Seen}
 use Rattle.ick_session.specs.Changes.{alike, had_at, step_text}
 use Rattle.ick_session.specs.Lines.{Talks}
-use Rattle.ick_session.specs.Stepper.{Settings, HasNoRoom}
+use Rattle.ick_session.specs.Session.{Settings, HasNoRoom}
 
 -- the line of a name
 abbrev pub line_of : Name → State → List ℕ
@@ -26,6 +26,6 @@ EachChangeIsShown = (p : Program) (code : Code) (s : State) (chosen : Bool) (nam
 
 -- The count of work has room for a further command after so few lines, if the session was within its limit.
 abbrev pub FewLinesHaveRoom : Type 0
-FewLinesHaveRoom = (f g : Settings) (positions : List Position) (s t : Seen) (lines : List (List ℕ)) (text : List ℕ) →
+FewLinesHaveRoom = (f g : Settings) (positions : List LineColumn) (s t : Seen) (lines : List (List ℕ)) (text : List ℕ) →
     Talks f positions s lines g t text → length s.answers ≤ f.limit →
     s.work + (length lines + 1) * (f.limit + 3000) < 2 ^ 64 → ¬ HasNoRoom f.limit t

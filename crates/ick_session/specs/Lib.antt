@@ -6,9 +6,11 @@ pub mod Counted
 pub mod Shown
 pub mod Targets
 pub mod Changes
-pub mod Held
+pub mod NameSnapshot
 pub mod Travel
-pub mod Stepper
+pub mod Session
+pub mod Evaluated
+pub mod Outcomes
 pub mod Answers
 pub mod Lines
 pub mod Laws

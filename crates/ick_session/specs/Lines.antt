@@ -2,12 +2,13 @@
 use Rattle.std.specs.Prelude.{◌≡◌, ◌≢◌, ◌≤◌, ◌+◌, ◌==◌, ℕ, Bool, true, false, List, [], ◌∷◌, ◌++◌}
 use Rattle.std.specs.Prelude.{codes, decimal, find, get_or, length, if◌then◌else◌}
 use Rattle.std.specs.Prelude.{Option, Some, None}
-use Rattle.ick_inspect.specs.declared.positions.Position.{Position}
+use Rattle.ick_inspect.specs.declared.positions.LineColumn.{LineColumn}
 use Rattle.ick_inspect.specs.declared.text.Text.{Text}
-use Rattle.ick_step.specs.Session.{Seen}
-use Rattle.ick_session.specs.Answers.{Answers, StopsShort, shown}
-use Rattle.ick_session.specs.Commands.{Order, first_word, order_in, to_quit, verb_in, verb_word, verbs}
-use Rattle.ick_session.specs.Stepper.{Settings, HasNoRoom, most_work}
+use Rattle.ick_step.specs.Seen.{Seen}
+use Rattle.ick_session.specs.Answers.{Answers, StopsShort}
+use Rattle.ick_session.specs.Commands.{Order, first_word, moves, order_in, to_quit, verb_in, verb_word, verbs}
+use Rattle.ick_session.specs.Evaluated.{no_expression_text}
+use Rattle.ick_session.specs.Session.{Settings, HasNoRoom, most_work}
 use Rattle.ick_session.specs.declared.commands.Verb.{Verb}
 use Rattle.ick_session.specs.declared.commands.Verb.TheVariants as verb
 
@@ -21,10 +22,11 @@ words_text verb.Step = codes "step takes a number, or nothing\n"
 words_text verb.Back = codes "back takes a number, or nothing\n"
 words_text verb.Until = codes "until takes the number of a statement\n"
 words_text verb.Run = codes "run takes a number, or nothing\n"
-words_text verb.Break = codes "break takes the number of a statement\n"
+words_text verb.Break = codes "break takes the number of a statement, or a label such as (20)\n"
 words_text verb.Delete = codes "delete takes the number of a statement, or nothing\n"
 words_text verb.Choose = codes "choose takes 0 or 1\n"
 words_text verb.Print = codes "print takes variables and arrays, such as .1 or ,2\n"
+words_text verb.Eval = no_expression_text
 words_text verb.Watch = codes "watch takes one variable or array, such as .1 or ,2\n"
 words_text verb.Why = codes "why takes one variable or array, such as .1 or ,2\n"
 words_text v = verb_word v ++ codes " takes nothing\n"
@@ -46,28 +48,30 @@ abbrev pub unknown_text : List ℕ → List ℕ
 unknown_text line =
     if length (first_word line) == 0 then [] else unread_text (first_word line) (verb_in (first_word line))
 
--- how far a command came before memory ran out
-abbrev pub short_text : Seen → List ℕ
-short_text t = codes "stopped after " ++ decimal (length t.answers) ++ codes " steps: out of memory\n"
+-- how far a command came before memory ran out, if it makes steps
+abbrev pub short_text : (moves : Bool) → Seen → List ℕ
+short_text false t = codes "out of memory\n"
+short_text true t = codes "stopped after " ++ decimal (length t.answers) ++ codes " steps: out of memory\n"
 
 -- A line leads from one state of a session to another, and has this answer. The session goes on unless the line is the
 -- command `quit`. A command adds no more to the count of work than `most_work`. If the count has no room for so much,
--- the answer says so, and nothing else changes. If memory runs out, the answer says how far the session came.
-pub data AnswersLine (f : Settings) (positions : List Position) (s : Seen) (line : List ℕ)
+-- the answer to a command that moves says so, and nothing else changes. If memory runs out, the answer says how far the
+-- session came.
+pub data AnswersLine (f : Settings) (positions : List LineColumn) (s : Seen) (line : List ℕ)
     : (g : Settings) → (t : Seen) → (text : List ℕ) → (goes_on : Bool) → Type 0 where
   no_command : order_in line ≡ None → AnswersLine f positions s line f s (unknown_text line) true
   quits : order_in line ≡ Some to_quit → AnswersLine f positions s line f s [] false
   answered : (order : Order) (g : Settings) (t : Seen) (text : List ℕ) → order_in line ≡ Some order →
       order ≢ to_quit → t.work ≤ s.work + most_work f.limit s → Answers f positions s order g t text →
       AnswersLine f positions s line g t text true
-  full : (order : Order) → order_in line ≡ Some order → order ≢ to_quit → shown positions s order ≡ None →
+  full : (order : Order) → order_in line ≡ Some order → order ≢ to_quit → moves order ≡ true →
       HasNoRoom f.limit s → AnswersLine f positions s line f s (codes "too many steps were made\n") true
   short : (order : Order) (t : Seen) → order_in line ≡ Some order → order ≢ to_quit →
       t.work ≤ s.work + most_work f.limit s → StopsShort f s order t →
-      AnswersLine f positions s line f t (short_text t) true
+      AnswersLine f positions s line f t (short_text (moves order) t) true
 
 -- lines that all lead on, and their answers joined
-pub data Talks (f : Settings) (positions : List Position) : (s : Seen) → (lines : List (List ℕ)) →
+pub data Talks (f : Settings) (positions : List LineColumn) : (s : Seen) → (lines : List (List ℕ)) →
     (g : Settings) → (t : Seen) → (text : List ℕ) → Type 0 where
   no_line : (s : Seen) → Talks f positions s [] f s []
   one_more : (g h : Settings) (s t u : Seen) (lines : List (List ℕ)) (line text more : List ℕ) →

@@ -5,16 +5,16 @@ use Rattle.std.specs.Prelude.{codes, get_or, is_some, length, option_map, take, 
 use Rattle.ick_syntax.specs.declared.tree.Name.{Name}
 use Rattle.ick_code.specs.meaning.Move.{Asking, plain, choice, ended, ask}
 use Rattle.ick_code.specs.meaning.State.{State}
-use Rattle.ick_inspect.specs.declared.positions.Position.{Position}
+use Rattle.ick_inspect.specs.declared.positions.LineColumn.{LineColumn}
 use Rattle.ick_runs.specs.Chosen.{Chosen, answer_of}
 use Rattle.ick_step.specs.History.{after, choices_in}
-use Rattle.ick_step.specs.Session.{Seen, present, with_answer}
+use Rattle.ick_step.specs.Seen.{Seen, present, with_answer}
 use Rattle.ick_session.specs.Changes.{Had, alike, had_at, printed_text}
-use Rattle.ick_session.specs.Held.{had}
+use Rattle.ick_session.specs.NameSnapshot.{had}
 use Rattle.ick_session.specs.Shown.{here_text}
-use Rattle.ick_session.specs.Stepper.{Settings}
-use Rattle.ick_session.specs.declared.stepper.Target.{Target}
-use Rattle.ick_session.specs.declared.stepper.Target.TheVariants.{Nowhere, Statement, Depth, Change}
+use Rattle.ick_session.specs.Session.{Settings}
+use Rattle.ick_session.specs.declared.session.travel.Target.{Target}
+use Rattle.ick_session.specs.declared.session.travel.Target.TheVariants.{Nowhere, Statement, Depth, Change}
 
 -- a state has something else at a name
 abbrev pub differs : Had → Name → State → Bool
@@ -126,13 +126,13 @@ abbrev pub limit_text : (left : ℕ) → List ℕ
 limit_text left = if left == 0 then codes "  limit reached\n" else []
 
 -- where a session is, and that it has come to a breakpoint, or to its limit
-abbrev pub where_text : Settings → List Position → Seen → List ℕ
+abbrev pub where_text : Settings → List LineColumn → Seen → List ℕ
 where_text f positions s =
     here_text s.program positions (length s.answers) (present s) ++ breakpoint_text (is_at_breakpoint f s)
     ++ limit_text (steps_left f.limit s)
 
 -- what was printed on the way from one session's state to another's, and where that is
-abbrev pub way_text : Settings → List Position → (s t : Seen) → List ℕ
+abbrev pub way_text : Settings → List LineColumn → (s t : Seen) → List ℕ
 way_text f positions s t =
     printed_text (length (present s).output) (present t) ++ where_text f positions t
 

@@ -1,7 +1,7 @@
 //! The statements at which steps stop.
 
 ghost use Rattle.std.specs.Prelude.{◌≡◌, ◌≢◌, ℕ, Bool, true, false, OnErr, OnOk};
-ghost use Rattle.ick_session.specs.Stepper.{has_breakpoint};
+ghost use Rattle.ick_session.specs.Session.{has_breakpoint};
 
 use ick_bits::NoMemory;
 use std::alloc::Global;

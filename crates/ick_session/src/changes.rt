@@ -4,7 +4,7 @@ ghost use Rattle.std.specs.Prelude.{◌≡◌, ◌≤◌, ◌++◌, false, lengt
 ghost use Rattle.std.specs.List.{list_any};
 ghost use Rattle.ick_code.specs.Compiled.{code_program, code_slots};
 ghost use Rattle.ick_inspect.specs.Text.{Adds};
-ghost use Rattle.ick_machine.specs.Present.{present_program, present_state};
+ghost use Rattle.ick_machine.specs.StateView.{present_program, present_state};
 ghost use Rattle.ick_session.specs.Changes.{abstained_text, alike, bytes_text, change_text};
 ghost use Rattle.ick_session.specs.Changes.{changes_text, had_at, moved_line, name_line};
 ghost use Rattle.ick_session.specs.Changes.{names_text, newest_line, newly_line, newly_text};
@@ -16,7 +16,7 @@ ghost use Rattle.ick_session.specs.Targets.{names_changed_by, ops_at};
 use crate::targets::{changed_by, is_changed_by, may_abstain, ops_of};
 use ick_code::{Code, Op};
 use ick_inspect::{
-    Present, Text, append_stack, append_variable, dimensions, elements, input_left,
+    StateView, Text, append_stack, append_variable, dimensions, elements, input_left,
     is_abstained_from, is_ignored, number, output, return_addresses, stashed_arrays,
     stashed_numbers,
 };
@@ -24,7 +24,7 @@ use ick_syntax::Name;
 
 /// Returns whether a name shows the same in two states: its number, its dimensions and elements,
 /// whether it is ignored, and how deep it is stashed.
-fn is_same_at(name: Name, before: &Present<'_, '_, '_>, after: &Present<'_, '_, '_>) -> bool
+fn is_same_at(name: Name, before: &StateView<'_, '_, '_>, after: &StateView<'_, '_, '_>) -> bool
     ensures { result ≡ alike (had_at (present_state before.now) name)
         (had_at (present_state after.now) name) }
 {
@@ -41,8 +41,8 @@ fn append_newly(
     out: &mut Text,
     word: &[u8],
     statement: u32,
-    before: &Present<'_, '_, '_>,
-    after: &Present<'_, '_, '_>,
+    before: &StateView<'_, '_, '_>,
+    after: &StateView<'_, '_, '_>,
 )
     requires before { statement ≤ length (present_program before.now) }
     requires after { statement ≤ length (present_program after.now) }
@@ -61,8 +61,8 @@ fn append_all_newly(
     out: &mut Text,
     word: &[u8],
     count: u32,
-    before: &Present<'_, '_, '_>,
-    after: &Present<'_, '_, '_>,
+    before: &StateView<'_, '_, '_>,
+    after: &StateView<'_, '_, '_>,
 )
     requires before { count ≤ length (present_program before.now) }
     requires after { count ≤ length (present_program after.now) }
@@ -80,8 +80,8 @@ fn append_abstained(
     out: &mut Text,
     code: &Code<'_>,
     ops: &[Op],
-    before: &Present<'_, '_, '_>,
-    after: &Present<'_, '_, '_>,
+    before: &StateView<'_, '_, '_>,
+    after: &StateView<'_, '_, '_>,
 )
     requires before { code_program code.now ≡ present_program before.now }
     requires after { code_program code.now ≡ present_program after.now }
@@ -100,8 +100,8 @@ fn append_abstained(
 fn append_name(
     out: &mut Text,
     name: Name,
-    before: &Present<'_, '_, '_>,
-    after: &Present<'_, '_, '_>,
+    before: &StateView<'_, '_, '_>,
+    after: &StateView<'_, '_, '_>,
 )
     ensures { Adds out.old out.new (name_line (present_state before.now) (present_state after.now)
         name) }
@@ -120,8 +120,8 @@ fn append_changed(
     code: &Code<'_>,
     earlier: &[Op],
     op: Op,
-    before: &Present<'_, '_, '_>,
-    after: &Present<'_, '_, '_>,
+    before: &StateView<'_, '_, '_>,
+    after: &StateView<'_, '_, '_>,
 )
     ensures { let slots = code_slots code.now in Adds out.old out.new (piece_unless
         (name_line (present_state before.now) (present_state after.now))
@@ -149,7 +149,7 @@ fn append_bytes(out: &mut Text, word: &[u8], bytes: &[u8])
 }
 
 /// Appends the output behind its first `before` bytes.
-pub fn append_printed(out: &mut Text, before: usize, after: &Present<'_, '_, '_>)
+pub fn append_printed(out: &mut Text, before: usize, after: &StateView<'_, '_, '_>)
     ensures { Adds out.old out.new (printed_text before (present_state after.now)) }
 {
     let whole = output(after);
@@ -157,7 +157,7 @@ pub fn append_printed(out: &mut Text, before: usize, after: &Present<'_, '_, '_>
 }
 
 /// Appends the input that was read between two states.
-fn append_read(out: &mut Text, before: &Present<'_, '_, '_>, after: &Present<'_, '_, '_>)
+fn append_read(out: &mut Text, before: &StateView<'_, '_, '_>, after: &StateView<'_, '_, '_>)
     ensures { Adds out.old out.new (read_text (present_state before.now)
         (present_state after.now)) }
 {
@@ -171,8 +171,8 @@ fn append_names(
     out: &mut Text,
     code: &Code<'_>,
     ops: &[Op],
-    before: &Present<'_, '_, '_>,
-    after: &Present<'_, '_, '_>,
+    before: &StateView<'_, '_, '_>,
+    after: &StateView<'_, '_, '_>,
 )
     ensures { Adds out.old out.new (names_text (code_slots code.now) ops.now
         (present_state before.now) (present_state after.now)) }
@@ -208,7 +208,7 @@ fn append_moved(out: &mut Text, before: &[u32], after: &[u32])
 
 /// If the return addresses have changed between two states, appends those that were pushed or
 /// removed, and the NEXT stack after the change.
-fn append_returned(out: &mut Text, before: &Present<'_, '_, '_>, after: &Present<'_, '_, '_>)
+fn append_returned(out: &mut Text, before: &StateView<'_, '_, '_>, after: &StateView<'_, '_, '_>)
     ensures { Adds out.old out.new (returned_text (present_state before.now)
         (present_state after.now)) }
 {
@@ -233,15 +233,15 @@ pub fn append_change(out: &mut Text, changed: bool, statement: u32)
 
 /// Appends the lines of a step from one state to another, at a statement. They show the input that
 /// the step read, the names that it changed and the statements that it abstained from or
-/// reinstated, each of them once. Then come the return addresses that it pushed or removed, the NEXT
-/// stack after that, and the output. `code` is the code of the program. Only a statement of
+/// reinstated, each of them once. Then come the return addresses that it pushed or removed, the
+/// NEXT stack after that, and the output. `code` is the code of the program. Only a statement of
 /// abstaining may change which statements are abstained from.
 pub fn append_changes(
     out: &mut Text,
     code: &Code<'_>,
     statement: u32,
-    before: &Present<'_, '_, '_>,
-    after: &Present<'_, '_, '_>,
+    before: &StateView<'_, '_, '_>,
+    after: &StateView<'_, '_, '_>,
 )
     requires before { code_program code.now ≡ present_program before.now }
     requires after { code_program code.now ≡ present_program after.now }

@@ -1,20 +1,23 @@
 //! The commands of a session.
 
-ghost use Rattle.std.specs.Prelude.{◌≡◌, ◌≤◌, None, Some, if◌then◌else◌, length};
-ghost use Rattle.std.specs.Prelude.{find, option_map};
+ghost use Rattle.std.specs.Prelude.{◌≡◌, ◌≤◌, ◌-◌, None, Some, if◌then◌else◌, length, true};
+ghost use Rattle.std.specs.Prelude.{find, option_map, slice_range};
 ghost use Rattle.std.specs.List.{prefix_len};
 ghost use Rattle.ick_bits.specs.White.{is_white_byte};
 ghost use Rattle.ick_session.specs.Commands.{alone, are_names, behind_word, choice_in, count_in};
-ghost use Rattle.ick_session.specs.Commands.{first_word, is_blank, is_solid, kind_in, most_in};
+ghost use Rattle.ick_session.specs.Commands.{first_word, is_blank, is_labelled, is_solid, kind_in};
+ghost use Rattle.ick_session.specs.Commands.{most_in, moves};
 ghost use Rattle.ick_session.specs.Commands.{name_alone};
 ghost use Rattle.ick_session.specs.Commands.{name_in, number_alone, number_in, order_by, order_in};
 ghost use Rattle.ick_session.specs.Commands.{order_of, verb_in, verb_word, verbs};
 ghost use Rattle.ick_session.specs.Lines.{begins_with, words_text};
 
+use crate::evaluated::NO_EXPRESSION;
 use ick_bits::is_white;
 use ick_syntax::{Name, NameKind};
 
-/// A command of a session. The names of `Print` are the words of a text.
+/// A command of a session. The names of `Print` are the words of a text, and `Eval` has the text of
+/// an expression.
 #[derive(Clone, Copy)]
 pub enum Command<'l> {
     Step(u32),
@@ -24,10 +27,12 @@ pub enum Command<'l> {
     Until(u32),
     Run(u32),
     Break(u32),
+    BreakLabel(u32),
     Delete(u32),
     DeleteAll,
     Choose(bool),
     Print(&'l [u8]),
+    Eval(&'l [u8]),
     Stack,
     State,
     List,
@@ -52,6 +57,7 @@ pub enum Verb {
     Delete,
     Choose,
     Print,
+    Eval,
     Stack,
     State,
     List,
@@ -64,7 +70,7 @@ pub enum Verb {
 }
 
 /// All verbs. If a word is the front of two verbs, it means the earlier one.
-static VERBS: [Verb; 19] = [
+static VERBS: [Verb; 20] = [
     Verb::Step,
     Verb::Back,
     Verb::Next,
@@ -75,6 +81,7 @@ static VERBS: [Verb; 19] = [
     Verb::Delete,
     Verb::Choose,
     Verb::Print,
+    Verb::Eval,
     Verb::Stack,
     Verb::State,
     Verb::List,
@@ -85,6 +92,26 @@ static VERBS: [Verb; 19] = [
     Verb::Help,
     Verb::Quit,
 ];
+
+impl Command<'_> {
+    /// Returns whether the command makes steps or takes them back.
+    pub fn moves(self) -> bool
+        ensures { result ≡ moves (order_of self.entry) }
+    {
+        matches!(
+            self,
+            Command::Step(_)
+                | Command::Back(_)
+                | Command::Next
+                | Command::Out
+                | Command::Until(_)
+                | Command::Run(_)
+                | Command::Choose(_)
+                | Command::Watch(_)
+                | Command::Why(_)
+        )
+    }
+}
 
 impl Verb {
     /// Returns the line that says what follows the word.
@@ -98,10 +125,11 @@ impl Verb {
             Verb::Out => b"out takes nothing\n",
             Verb::Until => b"until takes the number of a statement\n",
             Verb::Run => b"run takes a number, or nothing\n",
-            Verb::Break => b"break takes the number of a statement\n",
+            Verb::Break => b"break takes the number of a statement, or a label such as (20)\n",
             Verb::Delete => b"delete takes the number of a statement, or nothing\n",
             Verb::Choose => b"choose takes 0 or 1\n",
             Verb::Print => b"print takes variables and arrays, such as .1 or ,2\n",
+            Verb::Eval => NO_EXPRESSION,
             Verb::Stack => b"stack takes nothing\n",
             Verb::State => b"state takes nothing\n",
             Verb::List => b"list takes nothing\n",
@@ -129,6 +157,7 @@ impl Verb {
             Verb::Delete => b"delete",
             Verb::Choose => b"choose",
             Verb::Print => b"print",
+            Verb::Eval => b"eval",
             Verb::Stack => b"stack",
             Verb::State => b"state",
             Verb::List => b"list",
@@ -348,8 +377,9 @@ fn command_of(verb: Verb, rest: &[u8]) -> Option<Command<'_>>
         Verb::Watch => only_name(rest).map(|name| Command::Watch(name)),
         Verb::Why => only_name(rest).map(|name| Command::Why(name)),
         Verb::Print => names_command(rest),
+        Verb::Eval => eval_command(rest),
         Verb::Run => most_of(rest).map(|n| Command::Run(n)),
-        Verb::Break => only_number(rest).map(|n| Command::Break(n)),
+        Verb::Break => break_command(rest),
         Verb::Delete => delete_command(rest),
         Verb::Next => without_words(Command::Next, rest),
         Verb::Out => without_words(Command::Out, rest),
@@ -371,6 +401,43 @@ fn names_command(text: &[u8]) -> Option<Command<'_>>
         return Some(Command::Print(text));
     }
     None
+}
+
+/// Returns the command that shows the value of an expression, unless there is no word.
+fn eval_command(text: &[u8]) -> Option<Command<'_>>
+    ensures { option_map order_of result ≡ order_by Verb.Eval text.now }
+{
+    if has_no_word(text) {
+        return None;
+    }
+    Some(Command::Eval(text))
+}
+
+/// Returns whether a word is between parentheses.
+fn is_labelled(word: &[u8]) -> bool
+    ensures { result ≡ is_labelled word.now }
+{
+    !word.is_empty() && word[0] == b'(' && word[word.len() - 1] == b')'
+}
+
+/// Returns the command that sets a breakpoint at the statement with a number, or with a label.
+fn break_command(text: &[u8]) -> Option<Command<'_>>
+    ensures { option_map order_of result ≡ order_by Verb.Break text.now }
+{
+    let word = only_word(text)?;
+    if is_labelled(word) {
+        let label = number_in(inside(word))?;
+        return Some(Command::BreakLabel(label));
+    }
+    number_in(word).map(|n| Command::Break(n))
+}
+
+/// Returns a word that is between parentheses without them.
+fn inside(word: &[u8]) -> &[u8]
+    requires { is_labelled word.now ≡ true }
+    ensures { result.now ≡ slice_range word.now 1 (length word.now - 1) }
+{
+    &word[1..word.len() - 1]
 }
 
 /// Returns the command that deletes one breakpoint, or all.

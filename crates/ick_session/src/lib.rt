@@ -7,8 +7,11 @@
 //! | `commands` | the commands, and the lines that write them |
 //! | `help` | the answer to the command `help` |
 //! | `given` | the choices that a run is given |
+//! | `evaluated` | the answer to an expression |
+//! | `outcomes` | what an expression has in a state |
+//! | `labels` | which statement has a label |
 //! | `counted` | how many choices a session has answered |
-//! | `held` | what a state has at a name |
+//! | `name_snapshot` | what a state has at a name |
 //! | `last_change` | the last step of a session that changed a name |
 //! | `shown` | where a run is, and how it has ended |
 //! | `targets` | the names that a statement may change |
@@ -16,7 +19,7 @@
 //! | `passed` | statements that are passed over |
 //! | `trace` | the lines of a traced step |
 //! | `laws` | each change is shown, and few lines have room |
-//! | `stepper` | a session with its choices, and the answer to each command |
+//! | `session` | a session with its choices, and the answer to each command |
 //! | `lines` | the answer to a line |
 #![tactic(auto)]
 
@@ -24,24 +27,27 @@ mod breakpoints;
 mod changes;
 mod commands;
 mod counted;
+mod evaluated;
 mod given;
-mod held;
 mod help;
+mod labels;
 mod last_change;
 mod laws;
 mod lines;
+mod name_snapshot;
+mod outcomes;
 mod passed;
+mod session;
 mod shown;
-mod stepper;
 mod targets;
 mod trace;
 
 pub use commands::{Command, Verb, read_command};
 pub use given::{Given, Words};
-pub use ick_inspect::{Position, Text};
+pub use ick_inspect::{LineColumn, Text};
 pub use ick_step::RunsError;
 pub use laws::{each_change_is_shown, few_lines_have_room};
 pub use lines::answer_line;
+pub use session::Session;
 pub use shown::{append_here, append_place};
-pub use stepper::Stepper;
 pub use trace::{Pair, append_answered, trace_step};

@@ -5,36 +5,40 @@ ghost use Rattle.ick_inspect.specs.Text.{Adds};
 ghost use Rattle.ick_session.specs.Commands.{verb_in, verbs};
 ghost use Rattle.ick_session.specs.Lines.{AnswersLine, Says, begins_with, nearest_text};
 ghost use Rattle.ick_session.specs.Lines.{short_text, unread_text};
-ghost use Rattle.ick_session.specs.Stepper.{seen, settings};
+ghost use Rattle.ick_session.specs.Session.{seen, settings};
+ghost use Rattle.ick_syntax.specs.StatementTree.{statement_trees};
 
 use crate::commands::{Command, nearest_verb, next_word, read_command, verb_of};
-use crate::stepper::Stepper;
-use ick_inspect::{Position, Text};
+use crate::session::Session;
+use ick_inspect::{LineColumn, Text};
 use ick_step::RunsError;
+use ick_syntax::Statement;
 use std::alloc::Global;
 
 /// Answers a line, and puts the answer into `out` in place of what is there. Returns whether the
 /// session goes on, which it does unless the line is the command `quit`. There is a position for
-/// each statement.
+/// each statement of the program, and `statements` are its statements.
 ///
 /// A line that is no command changes nothing, and the answer says what the verb takes, or names the
 /// nearest command. If the count of work has no room for the steps that a command may make, the
 /// answer says so, and nothing else changes. If memory runs out, the session stands where the
-/// command has come to, and the answer says after how many steps.
+/// command has come to, and the answer to a command that moves says after how many steps.
 pub fn answer_line(
     alloc: Global,
-    positions: &[Position],
-    stepper: &mut Stepper<'_, '_>,
+    positions: &[LineColumn],
+    statements: &[Statement<'_>],
+    session: &mut Session<'_, '_>,
     line: &[u8],
     out: &mut Text,
 ) -> bool
-    requires { length positions.now ≡ length (seen stepper.old).program }
-    ensures fixed { settings stepper.new ≡ record (settings stepper.old) {
-      breakpoints = (settings stepper.new).breakpoints;
+    requires positions { length positions.now ≡ length (seen session.old).program }
+    requires statements { statement_trees statements.now ≡ (seen session.old).program }
+    ensures fixed { settings session.new ≡ record (settings session.old) {
+      breakpoints = (settings session.new).breakpoints;
     } }
     ensures answers { (text : List ℕ)
-        × AnswersLine (settings stepper.old) positions.now (seen stepper.old) line.now
-        (settings stepper.new) (seen stepper.new) text result
+        × AnswersLine (settings session.old) positions.now (seen session.old) line.now
+        (settings session.new) (seen session.new) text result
         × Says out.new text }
 {
     out.clear();
@@ -47,11 +51,11 @@ pub fn answer_line(
     };
     match command {
         Command::Quit => false,
-        _ => match stepper.answer(alloc, positions, command, out) {
+        _ => match session.answer(alloc, positions, statements, command, out) {
             Ok(()) => true,
             Err(error) => {
                 out.clear();
-                append_error(stepper, error, out);
+                append_error(session, error, command.moves(), out);
                 true
             }
         },
@@ -84,18 +88,27 @@ fn append_nearest(letter: u8, out: &mut Text)
 }
 
 /// Appends why a command came to no answer: the count of work has no room, or memory ran out.
-fn append_error(stepper: &Stepper<'_, '_>, error: RunsError, out: &mut Text)
+fn append_error(session: &Session<'_, '_>, error: RunsError, moves: bool, out: &mut Text)
     ensures full { error ≡ RunsError.WorkFull →
         Adds out.old out.new (codes "too many steps were made\n") }
     ensures short { error ≡ RunsError.NoMemory →
-        Adds out.old out.new (short_text (seen stepper.now)) }
+        Adds out.old out.new (short_text moves (seen session.now)) }
 {
     match error {
         RunsError::WorkFull => out.push(b"too many steps were made\n"),
-        _ => {
-            out.push(b"stopped after ");
-            out.push_decimal(stepper.steps() as u64);
-            out.push(b" steps: out of memory\n");
-        }
+        _ => append_short(session, moves, out),
     }
+}
+
+/// Appends that memory ran out. If the command moves, the answer says how many steps were made.
+fn append_short(session: &Session<'_, '_>, moves: bool, out: &mut Text)
+    ensures { Adds out.old out.new (short_text moves (seen session.now)) }
+{
+    if !moves {
+        out.push(b"out of memory\n");
+        return;
+    }
+    out.push(b"stopped after ");
+    out.push_decimal(session.steps() as u64);
+    out.push(b" steps: out of memory\n");
 }

@@ -4,14 +4,14 @@ ghost use Rattle.std.specs.Prelude.{◌≡◌, ◌≤◌, Some, length, option_m
 ghost use Rattle.ick_code.specs.meaning.Move.{is_done};
 ghost use Rattle.ick_code.specs.meaning.State.{statement_at};
 ghost use Rattle.ick_inspect.specs.Text.{Adds};
-ghost use Rattle.ick_machine.specs.Present.{present_program, present_state};
+ghost use Rattle.ick_machine.specs.StateView.{present_program, present_state};
 ghost use Rattle.ick_session.specs.Changes.{passed_text};
 
-use ick_inspect::{Present, Text, is_abstained_from, place};
+use ick_inspect::{StateView, Text, is_abstained_from, place};
 
 /// Returns whether a statement is done. If its chance asks a choice, `chosen` is the answer.
-#[tactic(auto, unfolding(ick_machine::specs::Present::present_program))]
-fn is_done(present: &Present<'_, '_, '_>, statement: u32, chosen: bool) -> bool
+#[tactic(auto, unfolding(ick_machine::specs::StateView::present_program))]
+fn is_done(present: &StateView<'_, '_, '_>, statement: u32, chosen: bool) -> bool
     requires first { 1 ≤ statement }
     requires last { statement ≤ length (present_program present.now) }
     ensures { option_map (λ tree. is_done tree ((present_state present.now).abstained statement)
@@ -29,8 +29,8 @@ fn is_done(present: &Present<'_, '_, '_>, statement: u32, chosen: bool) -> bool
 
 /// Appends that the statement that is met next is passed over, unless it is done. If its chance
 /// asks a choice, `chosen` is the answer.
-#[tactic(auto, unfolding(ick_machine::specs::Present::present_program))]
-pub fn append_passed(out: &mut Text, present: &Present<'_, '_, '_>, chosen: bool)
+#[tactic(auto, unfolding(ick_machine::specs::StateView::present_program))]
+pub fn append_passed(out: &mut Text, present: &StateView<'_, '_, '_>, chosen: bool)
     ensures { let s = present_state present.now in Adds out.old out.new
         (passed_text (statement_at (present_program present.now) s.place) s chosen) }
 {

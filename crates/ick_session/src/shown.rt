@@ -3,14 +3,14 @@
 ghost use Rattle.std.specs.Prelude.{◌≡◌, length, true};
 ghost use Rattle.ick_backtrack.specs.Asked.{finish_of};
 ghost use Rattle.ick_inspect.specs.Text.{Adds};
-ghost use Rattle.ick_machine.specs.Present.{present_program, present_state};
+ghost use Rattle.ick_machine.specs.StateView.{present_program, present_state};
 ghost use Rattle.ick_machine.specs.Seen.{trailed_machine};
 ghost use Rattle.ick_session.specs.Breakpoints.{has_statement, last_text, set_text};
 ghost use Rattle.ick_session.specs.Shown.{asked_text, here_text, met_text, over_text, past_text};
 ghost use Rattle.ick_session.specs.Shown.{place_text};
 ghost use Rattle.ick_session.specs.Travel.{breakpoint_text, going_text, limit_text};
 
-use ick_inspect::{Position, Present, Text, append_stack, append_statement, place};
+use ick_inspect::{LineColumn, StateView, Text, append_stack, append_statement, place};
 use ick_machine::{Ask, Asks, End, Trailed};
 
 /// Appends that no statement has a number.
@@ -23,8 +23,8 @@ fn append_past(out: &mut Text, n: u32)
 
 /// Appends the statement that has a number, with its position and its text, or that no statement
 /// has the number. `positions` has one position for each statement.
-#[tactic(auto, unfolding(ick_machine::specs::Present::present_program))]
-fn append_met(out: &mut Text, positions: &[Position], present: &Present<'_, '_, '_>, n: u32)
+#[tactic(auto, unfolding(ick_machine::specs::StateView::present_program))]
+fn append_met(out: &mut Text, positions: &[LineColumn], present: &StateView<'_, '_, '_>, n: u32)
     requires { length positions.now ≡ length (present_program present.now) }
     ensures { Adds out.old out.new (met_text (present_program present.now) positions.now n) }
 {
@@ -43,9 +43,9 @@ fn append_met(out: &mut Text, positions: &[Position], present: &Present<'_, '_, 
 /// next, with its line, its column and its text.
 pub fn append_place(
     out: &mut Text,
-    positions: &[Position],
+    positions: &[LineColumn],
     steps: usize,
-    present: &Present<'_, '_, '_>,
+    present: &StateView<'_, '_, '_>,
 )
     requires { length positions.now ≡ length (present_program present.now) }
     ensures { Adds out.old out.new (place_text (present_program present.now) positions.now steps
@@ -68,7 +68,12 @@ fn append_asked(out: &mut Text, chance: u8)
 
 /// Appends how a run has ended: by GIVE UP, or by a fault with its message, its statement and the
 /// NEXT stack.
-fn append_over(out: &mut Text, positions: &[Position], end: End<'_>, present: &Present<'_, '_, '_>)
+fn append_over(
+    out: &mut Text,
+    positions: &[LineColumn],
+    end: End<'_>,
+    present: &StateView<'_, '_, '_>,
+)
     requires { length positions.now ≡ length (present_program present.now) }
     ensures { Adds out.old out.new (over_text (present_program present.now) positions.now
         (finish_of end.entry) (present_state present.now)) }
@@ -89,7 +94,12 @@ fn append_over(out: &mut Text, positions: &[Position], end: End<'_>, present: &P
 
 /// Appends where a machine's run is: the number of steps that it has made, and the statement that
 /// is met next, or how the run has ended. If a choice is asked, a line with its chance follows.
-pub fn append_here(out: &mut Text, positions: &[Position], steps: usize, machine: &Trailed<'_, '_>)
+pub fn append_here(
+    out: &mut Text,
+    positions: &[LineColumn],
+    steps: usize,
+    machine: &Trailed<'_, '_>,
+)
     requires { length positions.now ≡ length (trailed_machine machine.now).program }
     ensures { Adds out.old out.new (here_text (trailed_machine machine.now).program positions.now
         steps (trailed_machine machine.now).state) }
@@ -137,16 +147,16 @@ pub fn append_going(goes: bool, out: &mut Text)
 }
 
 /// Returns whether the program has a statement of this number.
-#[tactic(auto, unfolding(ick_machine::specs::Present::present_program))]
-pub fn has_statement(present: &Present<'_, '_, '_>, n: u32) -> bool
+#[tactic(auto, unfolding(ick_machine::specs::StateView::present_program))]
+pub fn has_statement(present: &StateView<'_, '_, '_>, n: u32) -> bool
     ensures { result ≡ has_statement (present_program present.now) n }
 {
     n > 0 && !(present.lowered.code.count() < n)
 }
 
 /// Appends that a statement has a breakpoint, with its position and its text.
-#[tactic(auto, unfolding(ick_machine::specs::Present::present_program))]
-pub fn append_set(out: &mut Text, positions: &[Position], present: &Present<'_, '_, '_>, n: u32)
+#[tactic(auto, unfolding(ick_machine::specs::StateView::present_program))]
+pub fn append_set(out: &mut Text, positions: &[LineColumn], present: &StateView<'_, '_, '_>, n: u32)
     requires there { has_statement (present_program present.now) n ≡ true }
     requires positions { length positions.now ≡ length (present_program present.now) }
     ensures { Adds out.old out.new (set_text (present_program present.now) positions.now n) }
@@ -156,9 +166,17 @@ pub fn append_set(out: &mut Text, positions: &[Position], present: &Present<'_, 
     out.push(b"\n");
 }
 
+/// Returns the number of the last statement.
+#[tactic(auto, unfolding(ick_machine::specs::StateView::present_program))]
+pub fn last(present: &StateView<'_, '_, '_>) -> u32
+    ensures { result ≡ length (present_program present.now) }
+{
+    present.lowered.code.count()
+}
+
 /// Appends the number of the last statement.
-#[tactic(auto, unfolding(ick_machine::specs::Present::present_program))]
-pub fn append_last(out: &mut Text, present: &Present<'_, '_, '_>)
+#[tactic(auto, unfolding(ick_machine::specs::StateView::present_program))]
+pub fn append_last(out: &mut Text, present: &StateView<'_, '_, '_>)
     ensures { Adds out.old out.new (last_text (present_program present.now)) }
 {
     out.push(b"the last statement is ");

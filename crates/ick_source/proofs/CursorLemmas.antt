@@ -1,19 +1,25 @@
 -- Readers that keep their first refusal, one after another.
 use Rattle.std.specs.Prelude.{is_some}
-use Rattle.std.proofs.Common.{◌≡◌, ℕ, Bool, true, false, List, Option, Some, None, refl, sym, subst, ◌∙◌}
+use Rattle.std.proofs.Common.{◌≡◌, ℕ, Bool, true, false, List, Option, Some, None, inr, refl, sym, ap, subst, ◌∙◌}
 use Rattle.ick_syntax.specs.declared.faults.Faults.{Faults}
 use Rattle.ick_syntax.specs.Clamped.{no_faults, both_faults}
 use Rattle.ick_source.specs.declared.cursor.Cursor.{Cursor}
 use Rattle.ick_source.specs.declared.parsed.Unread.{Unread}
 use Rattle.ick_source.specs.declared.parsed.Unread.TheVariants.{Absent}
-use Rattle.ick_source.specs.Grammar.{Grammar, sequence, yields, nothing, next, looks, past_word}
+use Rattle.ick_source.specs.declared.wanted.Wanted.{Wanted}
+use Rattle.ick_source.specs.Grammar.{Grammar, sequence, yields, nothing, next, sign, looks, past_word}
 use Rattle.ick_source.specs.declared.lead.Lead.{Lead}
 use Rattle.ick_source.specs.Position.{past_white, next_lead}
 use Rattle.ick_source.specs.Reading.{read, is_there}
 use Rattle.ick_syntax.specs.BodyTree.{BodyTree, clamped_body, faults_of_body}
-use Rattle.ick_source.specs.Cursors.{left, Clamping, Ran, Outcome, Does, Reads, IsPlain, IsPlainSome, Sees, Refuses, body_trees}
+use Rattle.ick_source.specs.Cursors.{left, Clamping, Ran, Outcome, Does, Reads, IsPlain, IsPlainSome, Sees, Refuses}
+use Rattle.ick_source.specs.Cursors.{body_trees, Halts, HasRefused, Stays}
+use Rattle.ick_source.specs.Stops.{stops, told_by}
+use Rattle.ick_source.specs.Wanted.{is_told_by_character}
+use Rattle.ick_source.proofs.GrammarLaws.{there}
+use Rattle.ick_source.proofs.StopLemmas.{halts_first, halts_then}
 use Rattle.ick_source.proofs.ClampedLemmas.{both_assoc, both-no}
-use Rattle.ick_source.proofs.SequenceFound.{after, absent, done}
+use Rattle.ick_source.proofs.SequenceFound.{after, done}
 
 pub does_yield : {A : Type 0} (now : Cursor) (x : A) (Q : A → Faults → Type 0) → Q x no_faults → Does (yields x) now now Q
 does_yield {A} now x Q holds =
@@ -50,7 +56,7 @@ does_same {A} g now new P Q weaker p =
 -- one part after another
 pub does_then : {A B : Type 0} (g : Grammar A) (h : A → Grammar B) (old mid new : Cursor) (P : A → Faults → Type 0)
     (Q : B → Faults → Type 0) → Does g old mid P →
-    ((u : Unread) → mid.refusal ≡ Some u → new.refusal ≡ Some u) →
+    Stays mid new →
     ((a : A) (f : Faults) → P a f → Does (h a) mid new (λ b k. Q b (both_faults f k))) →
     Does (sequence g h) old new Q
 does_then {A} {B} g h old mid new P Q p stays q =
@@ -70,26 +76,28 @@ does_then {A} {B} g h old mid new P Q p stays q =
           same_text = r.same_text ∙ w.same_text;
           holds = r.holds;
         }
-    by_new w (Some u) r = λ e. after g h (left old) (left mid) w.value w.finding ∙ r e
+    by_new w (Some u) r =
+        λ v e. (
+          λ told. halts_then g h told (left old) (left mid) (left new) w.value v (there g (left old) _ w.finding)
+              ((r v e).0 (told_by g (left old) (left mid))),
+          (r v e).1 ∙ w.same_text,
+        )
 
     by_mid : (o : Option Unread) → mid.refusal ≡ o → Outcome g old mid P o → Outcome (sequence g h) old new Q new.refusal
     by_mid None m w = by_new w new.refusal ((q w.value w.faults w.holds).ends m)
     by_mid (Some u) m r =
-        subst (λ o. Outcome (sequence g h) old new Q o) (sym (stays u m)) (λ e. absent g h (left old) (r e))
+        let kept = stays (record { unread = u; place = left mid; text = mid.text }) (m, refl, refl) in
+        subst (λ o. Outcome (sequence g h) old new Q o) (sym kept.0)
+        (λ v e. (
+          λ told. subst (λ l. stops (sequence g h) told (left old) l v) (sym kept.1)
+              (halts_first g h told (left old) (left mid) v ((r v e).0 told)),
+          kept.2 ∙ (r v e).1,
+        ))
 
 -- nothing is read after a refusal
 pub does_nothing : {A : Type 0} (g : Grammar A) (now : Cursor) (Q : A → Faults → Type 0) (u : Unread) →
     now.refusal ≡ Some u → Does g now now Q
 does_nothing g now Q u e = record { stays = λ v f. f; ends = λ f. absurd (let both = sym e ∙ f in cc) }
-
--- a refusal that is kept
-pub does_refuse : {A : Type 0} (g : Grammar A) (old new : Cursor) (Q : A → Faults → Type 0) (u : Unread) →
-    old.refusal ≡ None → new.refusal ≡ Some u → (u ≡ Absent → read g (left old) ≡ None) → Does g old new Q
-does_refuse g old new Q u fine kept r =
-    record {
-      stays = λ v f. absurd (let both = sym fine ∙ f in cc);
-      ends = λ e. subst (λ o. Outcome g old new Q o) (sym kept) r;
-    }
 
 -- one part, made into a body
 pub reads_made : {A : Type 0} (g : Grammar A) (c : Clamping A) (old new : Cursor) (seen : c.Clamped)
@@ -107,7 +115,7 @@ reads_made g c old new seen make made p is faults =
 -- a part decides what is read after it
 pub does_decided : {A B : Type 0} (g : Grammar A) (h : A → Grammar B) (old mid new : Cursor) (b : A)
     (Q : B → Faults → Type 0) → Does g old mid (IsPlain b) →
-    ((u : Unread) → mid.refusal ≡ Some u → new.refusal ≡ Some u) → Does (h b) mid new Q → Does (sequence g h) old new Q
+    Stays mid new → Does (h b) mid new Q → Does (sequence g h) old new Q
 does_decided {A} {B} g h old mid new b Q s stays p =
     does_then g h old mid new (IsPlain b) Q s stays
     (λ a f q. subst (λ z. Does (h z) mid new (λ c k. Q c (both_faults f k))) (sym q.same)
@@ -116,13 +124,13 @@ does_decided {A} {B} g h old mid new b Q s stays p =
 -- the same with the value that the part is known to have
 pub does_by : {A B : Type 0} (g : Grammar A) (h : A → Grammar B) (old mid new : Cursor) (a b : A)
     (Q : B → Faults → Type 0) → Does g old mid (IsPlain a) → a ≡ b →
-    ((u : Unread) → mid.refusal ≡ Some u → new.refusal ≡ Some u) → Does (h b) mid new Q → Does (sequence g h) old new Q
+    Stays mid new → Does (h b) mid new Q → Does (sequence g h) old new Q
 does_by g h old mid new a b Q s e stays p =
     does_decided g h old mid new a Q s stays (subst (λ z. Does (h z) mid new Q) (sym e) p)
 
 pub does_some : {A B : Type 0} (g : Grammar A) (h : A → Grammar B) (old mid new : Cursor) (seen : Option A) (x : A)
     (Q : B → Faults → Type 0) → Does g old mid (IsPlainSome seen) → seen ≡ Some x →
-    ((u : Unread) → mid.refusal ≡ Some u → new.refusal ≡ Some u) → Does (h x) mid new Q → Does (sequence g h) old new Q
+    Stays mid new → Does (h x) mid new Q → Does (sequence g h) old new Q
 does_some g h old mid new seen x Q s e stays p =
     does_decided g h old mid new x Q
     (does_same g old mid (IsPlainSome seen) (IsPlain x)
@@ -164,18 +172,62 @@ does_look w now b e =
       });
     }
 
--- a refusal where nothing is there
-pub does_refused : {A : Type 0} (g : Grammar A) (old new : Cursor) (Q : A → Faults → Type 0) → Refuses old new →
-    (old.refusal ≡ None → read g (left old) ≡ None) → Does g old new Q
-does_refused g old new Q p none_there =
+same_wanted : (v w : Wanted) → Absent v ≡ Absent w → v ≡ w
+same_wanted v w e = cc
+
+-- a refusal where reading stops
+pub does_refused : {A : Type 0} (g : Grammar A) (old new : Cursor) (w : Wanted) (place : List ℕ) (Q : A → Faults → Type 0) →
+    Refuses w place old new → (old.refusal ≡ None → Halts g (left old) place w) → Does g old new Q
+does_refused g old new w place Q p halts =
     record {
       stays = p.stays;
-      ends = λ e. subst (λ o. Outcome g old new Q o) (sym (p.kept e)) (λ a. none_there e);
+      ends = λ e.
+          let kept = p.kept e in
+          subst (λ o. Outcome g old new Q o) (sym kept.0)
+          (λ v same. (
+            λ told. subst (λ x. stops g told (left old) (left new) x) (same_wanted w v same)
+                (subst (λ l. stops g told (left old) l w) (sym kept.1) (halts e told)),
+            kept.2,
+          ));
     }
 
-pub nothing_refused : {A : Type 0} (old new : Cursor) (Q : A → Faults → Type 0) → Refuses old new → Does nothing old new Q
-unfolding read
-nothing_refused old new Q p = does_refused nothing old new Q p (λ e. refl)
+pub nothing_refused : {A : Type 0} (old new : Cursor) (w : Wanted) (Q : A → Faults → Type 0) →
+    is_told_by_character w ≡ false → Refuses w (left old) old new → Does (nothing w) old new Q
+unfolding stops
+nothing_refused old new w Q untold p = does_refused (nothing w) old new w (left old) Q p (λ e told. (rw untold refl, refl))
+
+-- the next character is none that may be there
+pub does_stopped : {A : Type 0} (f : Lead → Grammar A) (old mid new : Cursor) (l : Lead) (w : Wanted) (place : List ℕ)
+    (Q : A → Faults → Type 0) → Does sign old mid (IsPlain l) → (mid.text ≡ old.text → place ≡ left old) →
+    Refuses w place mid new → f l ≡ nothing w → is_told_by_character w ≡ true → Does (sequence sign f) old new Q
+unfolding stops
+does_stopped {A} f old mid new l w place Q s is r none told_by_it =
+    record {
+      stays = λ u e. r.stays u (s.stays u e);
+      ends = λ e. by_mid mid.refusal refl (s.ends e);
+    }
+  where
+    stop : (x : Ran sign old mid (IsPlain l)) (kept : HasRefused (record { unread = Absent w; place = place; text = mid.text }) new) →
+        Outcome (sequence sign f) old new Q (Some (Absent w))
+    stop x kept =
+        λ v same. (
+          λ told. inr (
+            left mid,
+            x.value,
+            there sign (left old) _ x.finding,
+            subst (λ h. stops h (left old) (left mid) (left new) v) (sym (ap f x.holds.same ∙ none))
+                (rw told_by_it (sym (is x.same_text) ∙ sym kept.1), same_wanted w v same),
+          ),
+          kept.2 ∙ x.same_text,
+        )
+
+    by_mid : (o : Option Unread) → mid.refusal ≡ o → Outcome sign old mid (IsPlain l) o →
+        Outcome (sequence sign f) old new Q new.refusal
+    by_mid None m x =
+        let kept = r.kept m in subst (λ o. Outcome (sequence sign f) old new Q o) (sym kept.0) (stop x kept)
+    by_mid (Some u) m x =
+        let kept = r.stays (record { unread = u; place = left mid; text = mid.text }) (m, refl, refl) in
+        subst (λ o. Outcome (sequence sign f) old new Q o) (sym kept.0) (λ v same. absurd ((x v same).0 (left old)))
 
 -- what was found, with the cursor after it
 pub does_find : {A : Type 0} (g : Grammar A) (old new : Cursor) (x : A) (f : Faults) (Q : A → Faults → Type 0) →
@@ -183,7 +235,7 @@ pub does_find : {A : Type 0} (g : Grammar A) (old new : Cursor) (x : A) (f : Fau
     new.faults ≡ both_faults old.faults f → new.text ≡ old.text → Q x f → Does g old new Q
 does_find g old new x f Q fine still finding faults text holds =
     record {
-      stays = λ v e. absurd (let both = sym fine ∙ e in cc);
+      stays = λ v e. absurd (let both = sym fine ∙ e.0 in cc);
       ends = λ e. subst (λ o. Outcome g old new Q o) (sym still) (record {
         value = x;
         faults = f;

@@ -117,7 +117,7 @@ pub found : {A : Type 0} (g : Grammar A) (from to : List ℕ) (x : A) → stands
     read g from ≡ Some (record { value = x; left = to })
 unfolding stands read
 found (yields a) from to x p = let e = p.0 in let f = p.1 in cc
-found nothing from to x p = absurd p
+found (nothing w) from to x p = absurd p
 found (sequence g f) from to x p = rw (found g from p.0 p.1 p.2) (found (f p.1) p.0 to x p.3)
 found (word w) from to x p = rw (word-found p) refl
 found number from to x p = rw (numbers.number-begins p, numbers.number-ends p, numbers.number-value p) refl
@@ -131,7 +131,7 @@ pub there : {A : Type 0} (g : Grammar A) (from : List ℕ) (r : Found A) → rea
     stands g from r.left r.value
 unfolding stands read
 there (yields a) from r e = (cc, cc)
-there nothing from r e = absurd (cc)
+there (nothing w) from r e = absurd (cc)
 there (sequence {A = B} g f) from r e =
     by_first (read g from) (λ s p. there g from s p) (λ a mid p. there (f a) mid r p) e
   where

@@ -2,6 +2,9 @@
 use Rattle.std.proofs.Common.{ℕ, suc, zero, ◌<◌, ◌≤◌, Bool, true, false, List, [], ◌∷◌, length, Option, Some, None, ap, arith}
 use Rattle.ick_syntax.specs.declared.tree.NameKind.{NameKind}
 use Rattle.ick_source.specs.declared.lead.Delimiter.{Delimiter}
+use Rattle.ick_source.specs.declared.wanted.Wanted.{Wanted}
+use Rattle.ick_source.specs.declared.wanted.Wanted.TheVariants as wanted
+use Rattle.ick_source.specs.declared.wanted.Wanted.TheVariants.{Operand, Shallower}
 use Rattle.ick_source.specs.declared.lead.Lead.{Lead}
 use Rattle.ick_source.specs.declared.lead.Lead.TheVariants.{Spot, Array, Hash, Group, Unary, Binary, Other}
 use Rattle.ick_source.specs.Grammar.{Grammar, yields, nothing, sequence, word, number, sign, next, looks, repeated}
@@ -30,7 +33,7 @@ repeated-within part further within from to xs (and_more {later = later} p e les
 pub within : {A : Type 0} (g : Grammar A) (from to : List ℕ) (x : A) → stands g from to x → length to ≤ length from
 unfolding stands
 within (yields a) from to x p = omega (arith, ap length p.0)
-within nothing from to x p = absurd p
+within (nothing w) from to x p = absurd p
 within (sequence g f) from to x p = omega (arith, within g from p.0 p.1 p.2, within (f p.1) p.0 to x p.3)
 within (word w) from to x p = word-shorter p
 within number from to x p = omega (arith, number-shorter p)
@@ -51,9 +54,9 @@ pub number-shortens : Shorter number
 unfolding stands
 number-shortens from to x p = number-shorter p
 
-nothing-shortens : {A : Type 0} → Shorter {A = A} nothing
+nothing-shortens : {A : Type 0} (w : Wanted) → Shorter {A = A} (nothing w)
 unfolding stands
-nothing-shortens from to x p = absurd p
+nothing-shortens w from to x p = absurd p
 
 abbrev pub ShorterLevel : Level → Type 0
 ShorterLevel l = ((m : Option Delimiter) → Shorter (l.operands m)) × ((m : Option Delimiter) → Shorter (l.expressions m))
@@ -69,9 +72,9 @@ operand_by-shortens below m s (Spot k) = leaves-shorten (Some k)
 operand_by-shortens below m s Hash = leaves-shorten None
 operand_by-shortens below m s (Array k) = shorter-first _ _ number-shortens
 operand_by-shortens below m s (Group q) = shorter-then _ _ (λ o. shorter-first _ _ (s.1 (Some q)))
-operand_by-shortens below m s (Unary o) = nothing-shortens
-operand_by-shortens below m s (Binary o) = nothing-shortens
-operand_by-shortens below m s Other = nothing-shortens
+operand_by-shortens below m s (Unary o) = nothing-shortens Operand
+operand_by-shortens below m s (Binary o) = nothing-shortens Operand
+operand_by-shortens below m s Other = nothing-shortens Operand
 
 operands-shorten : (below : Level) (m : Option Delimiter) → ShorterLevel below → Shorter (operands_over below m)
 unfolding operands_over
@@ -84,7 +87,7 @@ expressions-shorten below h m s = shorter-first _ _ (operands-shorten below m s)
 
 pub level-shortens : (h : ℕ) → ShorterLevel (level h)
 unfolding level
-level-shortens zero = (λ m. nothing-shortens, λ m. nothing-shortens)
+level-shortens zero = (λ m. nothing-shortens Shallower, λ m. nothing-shortens Shallower)
 level-shortens (suc h) =
     let s = level-shortens h in (λ m. operands-shorten (level h) m s, λ m. expressions-shorten (level h) h m s)
 
@@ -92,11 +95,11 @@ pub name_by-shortens : (l : Lead) → Shorter (name_by l)
 unfolding named
 name_by-shortens (Spot k) = shorter-first _ _ number-shortens
 name_by-shortens (Array k) = shorter-first _ _ number-shortens
-name_by-shortens Hash = nothing-shortens
-name_by-shortens (Group q) = nothing-shortens
-name_by-shortens (Unary o) = nothing-shortens
-name_by-shortens (Binary o) = nothing-shortens
-name_by-shortens Other = nothing-shortens
+name_by-shortens Hash = nothing-shortens wanted.Name
+name_by-shortens (Group q) = nothing-shortens wanted.Name
+name_by-shortens (Unary o) = nothing-shortens wanted.Name
+name_by-shortens (Binary o) = nothing-shortens wanted.Name
+name_by-shortens Other = nothing-shortens wanted.Name
 
 pub names-shorten : Shorter names
 unfolding names
@@ -113,11 +116,11 @@ named-shortens kind = shorter-first _ _ number-shortens
 place_by-shortens : (l : Lead) → Shorter (place_by l)
 place_by-shortens (Spot k) = shorter-first _ _ (named-shortens k)
 place_by-shortens (Array k) = shorter-first _ _ (named-shortens k)
-place_by-shortens Hash = nothing-shortens
-place_by-shortens (Group q) = nothing-shortens
-place_by-shortens (Unary o) = nothing-shortens
-place_by-shortens (Binary o) = nothing-shortens
-place_by-shortens Other = nothing-shortens
+place_by-shortens Hash = nothing-shortens wanted.Place
+place_by-shortens (Group q) = nothing-shortens wanted.Place
+place_by-shortens (Unary o) = nothing-shortens wanted.Place
+place_by-shortens (Binary o) = nothing-shortens wanted.Place
+place_by-shortens Other = nothing-shortens wanted.Place
 
 pub places-shorten : Shorter places
 unfolding places
@@ -127,10 +130,10 @@ item_by-shortens : (l : Lead) → Shorter (item_by l)
 item_by-shortens Hash = shorter-first _ _ number-shortens
 item_by-shortens (Spot k) = place_by-shortens (Spot k)
 item_by-shortens (Array k) = place_by-shortens (Array k)
-item_by-shortens (Group q) = nothing-shortens
-item_by-shortens (Unary o) = nothing-shortens
-item_by-shortens (Binary o) = nothing-shortens
-item_by-shortens Other = nothing-shortens
+item_by-shortens (Group q) = nothing-shortens wanted.Item
+item_by-shortens (Unary o) = nothing-shortens wanted.Item
+item_by-shortens (Binary o) = nothing-shortens wanted.Item
+item_by-shortens Other = nothing-shortens wanted.Item
 
 pub items-shorten : Shorter items
 unfolding items
@@ -141,13 +144,13 @@ unfolding stands
 word-shortens w some from to x p = word-takes some p
 
 -- words with letters take characters
-among-shortens : {A : Type 0} (spelled : A → List ℕ) → ((x : A) → 0 < length (spelled x)) → (xs : List A) →
-    Shorter (among spelled xs)
+among-shortens : {A : Type 0} (w : Wanted) (spelled : A → List ℕ) → ((x : A) → 0 < length (spelled x)) → (xs : List A) →
+    Shorter (among w spelled xs)
 unfolding among
-among-shortens spelled some [] = nothing-shortens
-among-shortens spelled some (x ∷ xs) = shorter-then _ _ (by_word (among-shortens spelled some xs))
+among-shortens w spelled some [] = nothing-shortens w
+among-shortens w spelled some (x ∷ xs) = shorter-then _ _ (by_word (among-shortens w spelled some xs))
   where
-    by_word : Shorter (among spelled xs) → (b : Bool) → Shorter (pick b (word (spelled x) >> yields x) (among spelled xs))
+    by_word : Shorter (among w spelled xs) → (b : Bool) → Shorter (pick b (word (spelled x) >> yields x) (among w spelled xs))
     by_word again true = shorter-first _ _ (word-shortens (spelled x) (some x))
     by_word again false = again
 
@@ -167,7 +170,7 @@ gerund_word-some ReadingOut = omega arith
 
 pub gerunds-shorten : Shorter gerunds
 unfolding gerunds
-gerunds-shorten = shorter-first _ _ (among-shortens gerund_word gerund_word-some _)
+gerunds-shorten = shorter-first _ _ (among-shortens wanted.Gerund gerund_word gerund_word-some _)
 
 verb_word-some : (v : Verb) → 0 < length (verb_word v)
 verb_word-some Forget = omega arith
@@ -184,7 +187,7 @@ verb_word-some Read = omega arith
 
 verbs-shorten : Shorter verbs
 unfolding verbs
-verbs-shorten = among-shortens verb_word verb_word-some _
+verbs-shorten = among-shortens wanted.Body verb_word verb_word-some _
 
 labels-shorten : Shorter labels
 unfolding labels

@@ -31,6 +31,8 @@ pub mod SeenLemmas
 pub mod SequenceFound
 pub mod SourceLemmas
 pub mod StatementLemmas
+pub mod StopLemmas
+pub mod StopPlaces
 pub mod SurveyLemmas
 pub mod TokenShorter
 pub mod UsedLabelLemmas

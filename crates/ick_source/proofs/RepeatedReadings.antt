@@ -1,5 +1,5 @@
 -- Readers of repeated parts, turn by turn.
-use Rattle.std.proofs.Common.{◌≡◌, ◌<◌, ◌≤◌, List, [], ◌∷◌, ◌++◌, length, Option, Some, None, ◌⊎◌, inl, inr, refl, sym}
+use Rattle.std.proofs.Common.{◌≡◌, ℕ, ◌<◌, ◌≤◌, List, [], ◌∷◌, ◌++◌, length, Option, Some, None, ◌⊎◌, inl, inr, refl, sym}
 use Rattle.std.proofs.Common.{ap, subst, ◌∙◌, arith}
 use Rattle.ick_syntax.specs.declared.faults.Faults.{Faults}
 use Rattle.ick_syntax.specs.Clamped.{no_faults, both_faults}
@@ -8,11 +8,13 @@ use Rattle.ick_source.specs.declared.parsed.Unread.{Unread}
 use Rattle.ick_source.specs.declared.parsed.Unread.TheVariants.{Absent, NoMemory}
 use Rattle.ick_source.specs.Grammar.{Grammar, Further, repeated, Shorter}
 use Rattle.ick_source.specs.Reading.{read}
-use Rattle.ick_source.specs.Cursors.{left, Ran, Outcome, Does, Keeps}
+use Rattle.ick_source.specs.declared.wanted.Wanted.{Wanted}
+use Rattle.ick_source.specs.Cursors.{left, Ran, Outcome, Does, Keeps, Halts, HasRefused, Stays}
 use Rattle.ick_source.proofs.ClampedLemmas.{both_assoc, both-no}
 use Rattle.ick_source.proofs.GrammarLaws.{there}
-use Rattle.ick_source.proofs.RepeatedFound.{prepend, prepend-none, prepend-end, prepend-last, repeated-none, repeated-last}
+use Rattle.ick_source.proofs.RepeatedFound.{prepend, prepend-end, prepend-last, repeated-last}
 use Rattle.ick_source.proofs.RepeatedFound.{repeated-more}
+use Rattle.ick_source.proofs.StopLemmas.{halts_later, halts_part}
 
 -- the parts that were read so far; P holds of them and of their faults
 pub record SoFar {A : Type 0} (g : Grammar A) (further : Further) (old now : Cursor) (P : List A → Faults → Type 0) :
@@ -20,13 +22,15 @@ pub record SoFar {A : Type 0} (g : Grammar A) (further : Further) (old now : Cur
   pub values : List A
   pub faults : Faults
   pub finding : read (repeated g further) (left old) ≡ prepend values (read (repeated g further) (left now))
+  pub halts : (at : List ℕ) (w : Wanted) → Halts (repeated g further) (left now) at w →
+      Halts (repeated g further) (left old) at w
   pub are_faults : now.faults ≡ both_faults old.faults faults
   pub same_text : now.text ≡ old.text
   pub holds : P values faults
 
 pub record Repeats {A : Type 0} (g : Grammar A) (further : Further) (old now : Cursor) (P : List A → Faults → Type 0) :
     Type 0 where
-  pub stays : (u : Unread) → old.refusal ≡ Some u → now.refusal ≡ Some u
+  pub stays : Stays old now
   pub fine : old.refusal ≡ None → now.refusal ≡ None
   pub goes : old.refusal ≡ None → SoFar g further old now P
 
@@ -49,6 +53,7 @@ repeats-start g further old P holds =
         values = [];
         faults = no_faults;
         finding = refl;
+        halts = λ at w h. h;
         are_faults = sym (both-no old.faults);
         same_text = refl;
         holds = holds;
@@ -58,10 +63,18 @@ repeats-start g further old P holds =
 apart : (o : Option Unread) (u : Unread) → o ≡ None → o ≡ Some u → ⊥
 apart o u e f = let both = sym e ∙ f in cc
 
+-- a refusal stays
+pub refused_on : (old new : Cursor) (u : Unread) → Stays old new → old.refusal ≡ Some u →
+    HasRefused (record { unread = u; place = left old; text = old.text }) new
+refused_on old new u stays e = stays (record { unread = u; place = left old; text = old.text }) (e, refl, refl)
+
 -- a reader without a refusal had none before
-pub fine_before : (o r : Option Unread) → ((u : Unread) → o ≡ Some u → r ≡ Some u) → r ≡ None → o ≡ None
-fine_before None r stays e = refl
-fine_before (Some u) r stays e = absurd (apart r u e (stays u refl))
+pub fine_before : (old new : Cursor) → Stays old new → new.refusal ≡ None → old.refusal ≡ None
+fine_before old new stays e = by_old old.refusal refl
+  where
+    by_old : (o : Option Unread) → old.refusal ≡ o → old.refusal ≡ None
+    by_old None o = o
+    by_old (Some u) o = absurd (apart _ u e (refused_on old new u stays o).0)
 
 -- the part, which was read and kept
 record One {A T : Type 0} (g : Grammar A) (now kept : Cursor) (items items' : List T) (one : T)
@@ -82,7 +95,7 @@ one_kept {A} {T} g now mid kept items items' one Q q k started fine =
 
     by_mid : (o : Option Unread) → mid.refusal ≡ o → Outcome g now mid Q o → One g now kept items items' one Q
     by_mid None t r = by_keep r (k.ends t)
-    by_mid (Some u) t r = absurd (apart _ _ fine (k.stays u t))
+    by_mid (Some u) t r = absurd (apart _ _ fine (refused_on mid kept u k.stays t).0)
 
 abbrev More : {A T : Type 0} → (List A → Faults → Type 0) → (A → Faults → Type 0) → (List A → Faults → Type 0) →
     List T → List T → T → Type 0
@@ -98,7 +111,7 @@ pub repeats-more : {A T : Type 0} (g : Grammar A) (further : Further) (old now m
     Repeats g further old new R
 repeats-more g further old now mid kept new items items' one P Q R short p q k w more =
     record {
-      stays = λ u e. absurd (apart _ _ w.kept_fine (k.stays u (q.stays u (p.stays u e))));
+      stays = λ u e. absurd (apart _ _ w.kept_fine (k.stays u (q.stays u (p.stays u e))).0);
       fine = λ e. w.new_fine;
       goes = λ e.
           let s = p.goes e in
@@ -114,6 +127,9 @@ repeats-more g further old now mid kept new items items' one P Q R short p q k w
                 ∙ ap (prepend s.values)
                 (repeated-more g further (left now) (left kept) (left new) r.value r.finding (w.follows (p.fine e)) less)
                 ∙ sym (prepend-end s.values r.value (read (repeated g further) (left new)));
+            halts = λ at v h. s.halts at v
+                (halts_later g further (left now) (left kept) (left new) at r.value v (there g (left now) _ r.finding)
+                (w.follows (p.fine e)) less h);
             are_faults =
                 w.same_faults ∙ r.are_faults ∙ ap (λ z. both_faults z r.faults) s.are_faults
                 ∙ both_assoc old.faults s.faults r.faults;
@@ -126,7 +142,7 @@ pub repeats-shorter : {A T : Type 0} (g : Grammar A) (further : Further) (now mi
     (items items' : List T) (one : T) (Q : A → Faults → Type 0) → Shorter g → Does g now mid Q →
     Keeps mid kept items items' one → Follows further now kept new → length (left new) < length (left now)
 repeats-shorter g further now mid kept new items items' one Q short q k w =
-    let started = fine_before now.refusal kept.refusal (λ u e. k.stays u (q.stays u e)) w.kept_fine in
+    let started = fine_before now kept (λ u e. k.stays u (q.stays u e)) w.kept_fine in
     let r = (one_kept g now mid kept items items' one Q q k started w.kept_fine).ran in
     omega (arith, w.within, short (left now) (left kept) r.value (there g (left now) _ r.finding))
 
@@ -142,20 +158,24 @@ repeats-ends g further old now mid new items items' one P Q R p q k none_follows
       ends = λ e. by_new e new.refusal refl;
     }
   where
-    by_keep : (u : Unread) → new.refusal ≡ Some u → mid.refusal ≡ None → u ≡ Absent →
+    by_keep : (u : Unread) (v : Wanted) → new.refusal ≡ Some u → mid.refusal ≡ None → u ≡ Absent v →
         ((new ≡ mid) × (items' ≡ items ++ one ∷ [])) ⊎ (new.refusal ≡ Some NoMemory) →
-        read (repeated g further) (left old) ≡ None
-    by_keep u n m a (inl s) = absurd (apart _ _ m (ap (λ (z : Cursor). z.refusal) (sym s.0) ∙ n))
-    by_keep u n m a (inr s) = absurd (let both = sym n ∙ s in cc)
+        (Halts (repeated g further) (left old) (left new) v) × (new.text ≡ old.text)
+    by_keep u v n m a (inl s) = absurd (apart _ _ m (ap (λ (z : Cursor). z.refusal) (sym s.0) ∙ n))
+    by_keep u v n m a (inr s) = absurd (let both = sym n ∙ s in cc)
 
-    by_mid : (e : old.refusal ≡ None) (u : Unread) → new.refusal ≡ Some u → (o : Option Unread) → mid.refusal ≡ o →
-        Outcome g now mid Q o → u ≡ Absent → read (repeated g further) (left old) ≡ None
-    by_mid e u n None m r a = by_keep u n m a (k.ends m)
-    by_mid e u n (Some v) m r a =
+    by_mid : (e : old.refusal ≡ None) (u : Unread) (v : Wanted) → new.refusal ≡ Some u → (o : Option Unread) →
+        mid.refusal ≡ o → Outcome g now mid Q o → u ≡ Absent v →
+        (Halts (repeated g further) (left old) (left new) v) × (new.text ≡ old.text)
+    by_mid e u v n None m r a = by_keep u v n m a (k.ends m)
+    by_mid e u v n (Some t) m r a =
         let s = p.goes e in
-        let same = k.stays v m in
-        s.finding ∙ ap (prepend s.values) (repeated-none g further (left now) (r (let both = sym n ∙ same in cc)))
-        ∙ prepend-none s.values
+        let same = refused_on mid new t k.stays m in
+        let absent : t ≡ Absent v = let both = sym n ∙ same.0 in cc in (
+          subst (λ l. Halts (repeated g further) (left old) l v) (sym same.1)
+              (s.halts (left mid) v (halts_part g further (left now) (left mid) v (r v absent).0)),
+          same.2 ∙ (r v absent).1 ∙ s.same_text,
+        )
 
     by_new : (e : old.refusal ≡ None) (o : Option Unread) → new.refusal ≡ o → Outcome (repeated g further) old new R o
     by_new e None n =
@@ -175,4 +195,4 @@ repeats-ends g further old now mid new items items' one P Q R p q k none_follows
           same_text = r.same_text ∙ s.same_text;
           holds = more s.values s.faults r.value r.faults s.holds r.holds o.more;
         }
-    by_new e (Some u) n = λ a. by_mid e u n mid.refusal refl (q.ends (p.fine e)) a
+    by_new e (Some u) n = λ v a. by_mid e u v n mid.refusal refl (q.ends (p.fine e)) a

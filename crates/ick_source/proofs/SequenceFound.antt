@@ -16,11 +16,6 @@ pub after : {A B : Type 0} (g : Grammar A) (f : A → Grammar B) (from mid : Lis
 unfolding read
 after g f from mid a p = rw p refl
 
-pub absent : {A B : Type 0} (g : Grammar A) (f : A → Grammar B) (from : List ℕ) →
-    read g from ≡ None → read (sequence g f) from ≡ None
-unfolding read
-absent g f from p = rw p refl
-
 pub done : {A : Type 0} (x : A) (from : List ℕ) → read (yields x) from ≡ at x from
 unfolding read
 done x from = refl

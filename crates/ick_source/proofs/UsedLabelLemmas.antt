@@ -11,6 +11,7 @@ use Rattle.ick_syntax.specs.declared.tree.NameKind.{NameKind}
 use Rattle.ick_source.specs.declared.lead.Lead.{Lead}
 use Rattle.ick_source.specs.declared.lead.Lead.TheVariants.{Spot, Array, Hash, Group, Unary, Binary, Other}
 use Rattle.ick_source.specs.declared.position.Position.{Position}
+use Rattle.ick_source.specs.declared.wanted.Wanted.TheVariants.{Body}
 use Rattle.ick_source.specs.declared.verb.Verb.{Verb}
 use Rattle.ick_source.specs.declared.verb.Verb.TheVariants.{Forget, Resume, Stash, Retrieve, Ignore, Remember, Abstain}
 use Rattle.ick_source.specs.declared.verb.Verb.TheVariants.{Reinstate, Give, Write, Read}
@@ -45,15 +46,15 @@ unfolding stands calls
 call_at from to b s = subst (HasItsLabel from) s.3.3.1 (label_at from s.0 s.1 s.2)
 
 -- the word of the verb that is there
-verb_at : (vs : List Verb) (from to : List ℕ) (v : Verb) → stands (among verb_word vs) from to v →
+verb_at : (vs : List Verb) (from to : List ℕ) (v : Verb) → stands (among Body verb_word vs) from to v →
     IsWord (verb_word v) from to
 unfolding stands among
 verb_at [] from to v s = absurd s
 verb_at (x ∷ vs) from to v s = by_test s.1 s.0 s.2.1 s.3 (λ mid p. verb_at vs mid to v p)
   where
     by_test : (t : Bool) (mid : List ℕ) → from ≡ mid →
-        stands (pick t (sequence (word (verb_word x)) (λ _. yields x)) (among verb_word vs)) mid to v →
-        ((mid : List ℕ) → stands (among verb_word vs) mid to v → IsWord (verb_word v) mid to) → IsWord (verb_word v) from to
+        stands (pick t (sequence (word (verb_word x)) (λ _. yields x)) (among Body verb_word vs)) mid to v →
+        ((mid : List ℕ) → stands (among Body verb_word vs) mid to v → IsWord (verb_word v) mid to) → IsWord (verb_word v) from to
     by_test true mid e s later =
         subst (λ u. IsWord (verb_word u) from to) s.3.1
         (subst (λ l. IsWord (verb_word x) from l) s.3.0 (subst (λ l. IsWord (verb_word x) l s.0) (sym e) s.2))

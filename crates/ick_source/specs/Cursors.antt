@@ -1,6 +1,7 @@
 -- For private contracts: what a reader over a cursor does. It keeps its first refusal, and reads nothing after it.
 use Rattle.std.specs.Prelude.{ℕ, Bool, true, false, map, ◌≡◌, ◌⊎◌, ◌++◌, ◌∷◌, [], List, Option, Some, None}
 use Rattle.std.specs.Prelude.{Result, Ok, Err}
+use Rattle.std.specs.Borrow.{Bor}
 use Rattle.std.specs.Global.{Vec}
 use Rattle.ick_syntax.specs.declared.faults.Faults.{Faults}
 use Rattle.ick_syntax.specs.declared.body.Gerund.{Gerund}
@@ -12,10 +13,12 @@ use Rattle.ick_source.specs.declared.cursor.Sort.{Sort}
 use Rattle.ick_source.specs.declared.cursor.Sort.TheVariants.{Mesh, Name, Label}
 use Rattle.ick_source.specs.declared.expression.Sized.{Sized as Found_sized}
 use Rattle.ick_source.specs.declared.parsed.Unread.{Unread}
+use Rattle.ick_source.specs.declared.wanted.Wanted.{Wanted}
 use Rattle.ick_source.specs.declared.parsed.Unread.TheVariants.{Absent, NoMemory}
 use Rattle.ick_source.specs.Position.{left_at, past_white}
 use Rattle.ick_source.specs.Grammar.{Grammar, past_word}
 use Rattle.ick_source.specs.Reading.{read, is_there}
+use Rattle.ick_source.specs.Stops.{stops}
 use Rattle.ick_source.specs.Expression.{Sized, sized, trees_along, highest}
 use Rattle.ick_source.specs.BodyGrammar.{names, places, items, gerunds, wholes}
 use Rattle.ick_syntax.specs.Tree.{Tree, tree_of, trees_in}
@@ -43,13 +46,31 @@ pub record Ran {A : Type 0} (g : Grammar A) (old new : Cursor) (Q : A → Faults
   pub same_text : new.text ≡ old.text
   pub holds : Q value faults
 
+-- reading stops there, and this is wanted, whatever was read before
+abbrev pub Halts : {A : Type 0} → Grammar A → (from at : List ℕ) → Wanted → Type 0
+Halts g from at w = (told : List ℕ) → stops g told from at w
+
 abbrev pub Outcome : {A : Type 0} → Grammar A → Cursor → Cursor → (A → Faults → Type 0) → Option Unread → Type 0
 Outcome g old new Q None = Ran g old new Q
-Outcome g old new Q (Some u) = u ≡ Absent → read g (left old) ≡ None
+Outcome g old new Q (Some u) = (w : Wanted) → u ≡ Absent w →
+    (Halts g (left old) (left new) w) × (new.text ≡ old.text)
+
+-- a refusal, the text, and the characters that are left where it was kept
+pub record Refused : Type 0 where
+  pub unread : Unread
+  pub place : List ℕ
+  pub text : Bor (List ℕ)
+
+abbrev pub HasRefused : Refused → Cursor → Type 0
+HasRefused r c = (c.refusal ≡ Some r.unread) × (left c ≡ r.place) × (c.text ≡ r.text)
+
+-- an earlier refusal stays, and the cursor stays there
+abbrev pub Stays : Cursor → Cursor → Type 0
+Stays old new = (r : Refused) → HasRefused r old → HasRefused r new
 
 -- what a reader of a grammar does: an earlier refusal stays; else a value was read, or there is a refusal
 pub record Does {A : Type 0} (g : Grammar A) (old new : Cursor) (Q : A → Faults → Type 0) : Type 0 where
-  pub stays : (u : Unread) → old.refusal ≡ Some u → new.refusal ≡ Some u
+  pub stays : Stays old new
   pub ends : old.refusal ≡ None → Outcome g old new Q new.refusal
 
 -- the answer is the value with clamped numbers
@@ -69,10 +90,10 @@ pub record IsPlainSome {A : Type 0} (seen : Option A) (x : A) (f : Faults) : Typ
   pub same : seen ≡ Some x
   pub none : f ≡ no_faults
 
--- there is a refusal
-pub record Refuses (old new : Cursor) : Type 0 where
-  pub stays : (u : Unread) → old.refusal ≡ Some u → new.refusal ≡ Some u
-  pub kept : old.refusal ≡ None → new.refusal ≡ Some Absent
+-- there is a refusal: this is wanted where these characters are left
+pub record Refuses (w : Wanted) (place : List ℕ) (old new : Cursor) : Type 0 where
+  pub stays : Stays old new
+  pub kept : old.refusal ≡ None → HasRefused (record { unread = Absent w; place = place; text = old.text }) new
 
 -- whether this word comes next
 pub record Sees (w : List ℕ) (now : Cursor) (seen : Bool) : Type 0 where
@@ -87,13 +108,13 @@ Eats w old new false = (old.refusal ≡ None → past_word w (past_white (left o
 
 -- the expression, or a refusal
 pub record Makes (old new : Cursor) (expr : Result Expr Unread) (made : Expr) : Type 0 where
-  pub stays : (u : Unread) → old.refusal ≡ Some u → new.refusal ≡ Some u
+  pub stays : Stays old new
   pub ok : (e : Expr) → expr ≡ Ok e → (made ≡ e) × (new ≡ old)
   pub err : (u : Unread) → expr ≡ Err u → old.refusal ≡ None → new.refusal ≡ Some u
 
 -- the list with one part more, or a refusal
 pub record Keeps {T : Type 0} (old new : Cursor) (items items' : List T) (one : T) : Type 0 where
-  pub stays : (u : Unread) → old.refusal ≡ Some u → new.refusal ≡ Some u
+  pub stays : Stays old new
   pub ends : old.refusal ≡ None →
       ((new ≡ old) × (items' ≡ items ++ one ∷ [])) ⊎ (new.refusal ≡ Some NoMemory)
 

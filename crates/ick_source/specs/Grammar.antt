@@ -4,6 +4,7 @@
 use Rattle.std.specs.Prelude.{ℕ, nat_eq, if◌then◌else◌, Bool, true, false, ◌≡◌, ◌<◌, List, [], ◌∷◌, Option, Some, None}
 use Rattle.std.specs.Prelude.{length, codes}
 use Rattle.ick_source.specs.declared.lead.Lead.{Lead}
+use Rattle.ick_source.specs.declared.wanted.Wanted.{Wanted}
 use Rattle.ick_source.specs.Position.{past_white, next_lead, past_lead}
 use Rattle.ick_source.specs.Token.{IsNumber, IsWord}
 
@@ -14,8 +15,8 @@ Further = List ℕ → List ℕ → Option (List ℕ)
 pub data Grammar : Type 0 → Type 1 where
   -- a value, and no characters
   yields : {A : Type 0} → A → Grammar A
-  -- nowhere
-  nothing : {A : Type 0} → Grammar A
+  -- nowhere; this is wanted
+  nothing : {A : Type 0} → Wanted → Grammar A
   -- a part, and a further part after it
   sequence : {A B : Type 0} → Grammar A → (A → Grammar B) → Grammar B
   -- this word
@@ -38,20 +39,20 @@ infixl 10 ◌>>◌
 abbrev pub ◌>>◌ : {A B : Type 0} → Grammar A → Grammar B → Grammar B
 g >> f = sequence g (λ _. f)
 
--- a part, if the test holds
-abbrev pub when : {A : Type 0} → Bool → Grammar A → Grammar A
-when true g = g
-when false g = nothing
+-- a part, if the test holds, else this is wanted
+abbrev pub when : {A : Type 0} → Wanted → Bool → Grammar A → Grammar A
+when w true g = g
+when w false g = nothing w
 
 -- the first part if the test holds, else the second
 abbrev pub pick : {A : Type 0} → Bool → Grammar A → Grammar A → Grammar A
 pick true g h = g
 pick false g h = h
 
--- the one of these whose word follows
-unfoldable pub among : {A : Type 0} → (A → List ℕ) → List A → Grammar A
-among spelled [] = nothing
-among spelled (x ∷ xs) = looks (spelled x) >>= λ b. pick b (word (spelled x) >> yields x) (among spelled xs)
+-- the one of these whose word follows; if none does, this is wanted
+unfoldable pub among : {A : Type 0} → Wanted → (A → List ℕ) → List A → Grammar A
+among w spelled [] = nothing w
+among w spelled (x ∷ xs) = looks (spelled x) >>= λ b. pick b (word (spelled x) >> yields x) (among w spelled xs)
 
 -- what is left after a word
 unfoldable pub past_word : List ℕ → List ℕ → Option (List ℕ)
@@ -93,7 +94,7 @@ pub data IsAhead (w from : List ℕ) : Bool → Type 0 where
 -- the value x is between the positions `from` and `to`
 unfoldable pub stands : {A : Type 0} → Grammar A → List ℕ → List ℕ → A → Type 0
 stands (yields a) from to x = (from ≡ to) × (a ≡ x)
-stands nothing from to x = ⊥
+stands (nothing w) from to x = ⊥
 stands (sequence {A} g f) from to x = (mid : List ℕ) × (a : A) × (stands g from mid a) × (stands (f a) mid to x)
 stands (word w) from to x = IsWord w from to
 stands number from to x = IsNumber from to x

@@ -26,10 +26,13 @@ pub mod SeenAnswers
 pub mod SourceAnswers
 pub mod StatementAnswers
 pub mod Statements
+pub mod StopAnswers
+pub mod Stops
 pub mod Surveys
 pub mod Token
 pub mod UsedLabels
 pub mod Verb
+pub mod Wanted
 pub use Rattle.ick_syntax.specs.BodyTree
 pub use Rattle.ick_syntax.specs.ProgramFaults
 pub use Rattle.ick_syntax.specs.Programs

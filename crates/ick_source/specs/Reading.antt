@@ -66,7 +66,7 @@ turns (suc n) part further from = turn_on (turns n part further) further from (p
 
 unfoldable pub read : {A : Type 0} → Grammar A → List ℕ → Finding A
 read (yields a) from = Some (record { value = a; left = from })
-read nothing from = None
+read (nothing w) from = None
 read (sequence g f) from = and_then (read g from) (λ a mid. read (f a) mid)
 read (word w) from = as_found tt (past_word w (past_white from))
 read number from = number_in (past_white from)

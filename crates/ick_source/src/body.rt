@@ -12,6 +12,7 @@ use crate::lead::Lead;
 use crate::part::MAX_SUBSCRIPT_HEIGHT;
 use crate::token::word_at;
 use crate::verb::Verb;
+use crate::wanted::Wanted;
 use ick_syntax::{Body, Element, Expr, NameKind, Target};
 
 impl<'a> Cursor<'a> {
@@ -94,7 +95,7 @@ impl<'a> Cursor<'a> {
                 return Some(verb);
             }
         }
-        self.refuse();
+        self.refuse(Wanted::Body);
         None
     }
 

@@ -9,12 +9,13 @@ ghost use Rattle.ick_source.specs.Cursors.{Does, Eats, IsPlain, Keeps, Makes, Re
 ghost use Rattle.ick_source.specs.Cursors.{Refuses, Sees, faults_by, left, numbers};
 ghost use Rattle.ick_source.specs.Expression.{unaries};
 ghost use Rattle.ick_source.specs.Grammar.{number, sign, word};
-ghost use Rattle.ick_source.specs.Position.{next_lead};
+ghost use Rattle.ick_source.specs.Position.{left_at, next_lead};
 
 use crate::lead::Lead;
 use crate::parsed::Unread;
 use crate::position::{Position, lead_at};
 use crate::token::{number_at, word_at};
+use crate::wanted::Wanted;
 use ick_syntax::{Expr, Faults, UnaryOp, clamped_number};
 use std::alloc::Global;
 
@@ -50,13 +51,24 @@ impl Sort {
 }
 
 impl<'a> Cursor<'a> {
-    /// Refuses: the text has no part here that the grammar expects.
+    /// Refuses: the text has no part here that the grammar expects. This is wanted.
     #[inline(always)]
-    pub fn refuse(&mut self)
-        ensures { Refuses self.old self.new }
+    pub fn refuse(&mut self, wanted: Wanted)
+        ensures { Refuses wanted (left self.old) self.old self.new }
     {
         if self.refusal.is_none() {
-            self.refusal = Some(Unread::Absent);
+            self.refusal = Some(Unread::Absent(wanted));
+        }
+    }
+
+    /// Refuses at an earlier position: the next character there is none that the grammar expects.
+    #[inline(always)]
+    pub fn refuse_at(&mut self, at: Position, wanted: Wanted)
+        ensures { Refuses wanted (left_at self.old.text.now at) self.old self.new }
+    {
+        if self.refusal.is_none() {
+            self.at = at;
+            self.refusal = Some(Unread::Absent(wanted));
         }
     }
 
@@ -135,7 +147,7 @@ impl<'a> Cursor<'a> {
         ensures { Does (word letters.now) self.old self.new (IsPlain tt) }
     {
         if !self.eats(letters) {
-            self.refuse();
+            self.refuse(Wanted::of_word(letters));
         }
     }
 
@@ -148,7 +160,7 @@ impl<'a> Cursor<'a> {
             return 0;
         }
         let Some(found) = number_at(self.text, self.at) else {
-            self.refuse();
+            self.refuse(Wanted::Number);
             return 0;
         };
         self.at = found.to;

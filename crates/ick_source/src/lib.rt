@@ -53,18 +53,22 @@ mod seen;
 mod source;
 pub mod statement_reader;
 mod statements;
+mod stop;
 mod survey;
 pub mod token;
 pub mod verb;
+mod wanted;
 
 pub use all_faults::FaultAt;
 pub use ick_syntax::{
     BinaryOp, Body, Element, Expr, Gerund, Item, Kind, Name, NameKind, Place, Program, Statement,
     Target, UnaryOp,
 };
-pub use laws::{one_body, one_cut, one_reading, one_refusal};
+pub use laws::{one_body, one_cut, one_reading, one_refusal, one_stop};
 pub use listing::append_listing;
 pub use refusals::Refusal;
 pub use seen::Seen;
 pub use source::read_source;
 pub use statements::{Listed, read_statements};
+pub use stop::{Stop, stop_of};
+pub use wanted::Wanted;

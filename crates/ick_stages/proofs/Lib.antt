@@ -7,3 +7,8 @@ mod StageLaws
 mod StagesLaws
 mod TraceLaws
 mod TreeLaws
+mod PartLaws
+mod LineLaws
+mod FaultLaws
+mod ListedLaws
+mod StartLaws

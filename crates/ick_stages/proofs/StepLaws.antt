@@ -8,7 +8,7 @@ use Rattle.ick_inspect.proofs.AddLaws.{nothing, then}
 use Rattle.ick_inspect.specs.Text.{Adds}
 use Rattle.ick_inspect.specs.declared.text.Text.{Text}
 use Rattle.ick_instructions.specs.declared.layout.Layout.{Layout}
-use Rattle.ick_lowering.specs.declared.draft.Draft.{Draft}
+use Rattle.ick_lowering.specs.declared.draft.StatementDraft.{StatementDraft}
 use Rattle.ick_lowering.specs.Lowering.{Follows, Reached}
 use Rattle.ick_stages.specs.Steps.{AreSteps, HasSteps, IsCleared, Made, asked_text, line_by, made_by, no_step, one_more}
 use Rattle.ick_syntax.specs.StatementTree.{StatementTree}
@@ -26,7 +26,7 @@ abbrev pub made_first : List ℕ → Made
 made_first xs = record { first = xs; store = 0 }
 
 module _ {program : List StatementTree} {slots : Slots} {layout : Layout} where
-  pub steps_none : (asked : Bool) (old d : Draft) (text : Text) (made : Made) → IsCleared old d → made ≡ made_first [] →
+  pub steps_none : (asked : Bool) (old d : StatementDraft) (text : Text) (made : Made) → IsCleared old d → made ≡ made_first [] →
       HasSteps program slots layout asked [] old d text text made
   steps_none asked old d text made cleared none = record {
     first = d;
@@ -36,7 +36,7 @@ module _ {program : List StatementTree} {slots : Slots} {layout : Layout} where
     added = no_lines asked text;
   }
 
-  pub steps_next : (asked : Bool) (ops : List Op) (i : ℕ) (d : Op) {start old new : Draft} {a b c : Text} {made more : Made} →
+  pub steps_next : (asked : Bool) (ops : List Op) (i : ℕ) (d : Op) {start old new : StatementDraft} {a b c : Text} {made more : Made} →
       i < length ops →
       HasSteps program slots layout asked (take i ops) start old a b made →
       Follows program slots layout (get_or ops i d) old new →

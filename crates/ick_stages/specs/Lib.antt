@@ -12,4 +12,10 @@ pub mod Left
 pub mod Statements
 pub mod Stages
 pub mod Traces
+pub mod Lines
 pub mod Writing
+pub mod Starts
+pub mod Placed
+pub mod Parts
+pub mod Faults
+pub mod Listed

@@ -8,7 +8,7 @@ use Rattle.ick_code.specs.declared.op.SlotName.TheVariants.{Scalar}
 use Rattle.ick_code.specs.Effects.{Slots}
 use Rattle.ick_instructions.specs.declared.layout.Layout.{Layout}
 use Rattle.ick_instructions.specs.declared.lowered.Lowered.{Lowered}
-use Rattle.ick_lowering.specs.declared.draft.Draft.{Draft}
+use Rattle.ick_lowering.specs.declared.draft.StatementDraft.{StatementDraft}
 use Rattle.ick_stages.specs.Names.{slot_text}
 use Rattle.ick_stages.specs.declared.registers.Registers.{Registers}
 
@@ -28,7 +28,7 @@ names_of r = record {
 }
 
 -- those of a draft and of a lowered program
-abbrev pub drafted : Code → Layout → Draft → RegisterNames
+abbrev pub drafted : Code → Layout → StatementDraft → RegisterNames
 drafted code layout draft = record {
   slots = code_slots code;
   layout = layout;

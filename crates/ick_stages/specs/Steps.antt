@@ -9,7 +9,7 @@ use Rattle.ick_code.specs.declared.op.Op.{Op}
 use Rattle.ick_code.specs.declared.op.Op.TheVariants as of
 use Rattle.ick_instructions.specs.declared.instruction.Instruction.{Instruction}
 use Rattle.ick_instructions.specs.declared.layout.Layout.{Layout}
-use Rattle.ick_lowering.specs.declared.draft.Draft.{Draft}
+use Rattle.ick_lowering.specs.declared.draft.StatementDraft.{StatementDraft}
 use Rattle.ick_lowering.specs.declared.value.Operand.{Operand}
 use Rattle.ick_lowering.specs.Lowering.{Follows, Reached}
 use Rattle.ick_inspect.specs.Text.{Adds}
@@ -26,11 +26,11 @@ use Rattle.ick_syntax.specs.declared.tree.NameKind.{NameKind}
 use Rattle.ick_syntax.specs.declared.tree.NameKind.TheVariants.{Twospot}
 
 -- the operand with so many from it on, as the newest one for 1
-abbrev pub operand_at : Draft → ℕ → Option Operand
+abbrev pub operand_at : StatementDraft → ℕ → Option Operand
 operand_at draft newest = slice_get draft.stack.items (length draft.stack.items - newest)
 
 -- what a draft has before an operation
-abbrev pub before_of : Draft → Before
+abbrev pub before_of : StatementDraft → Before
 before_of draft = record {
   count = length draft.instructions.items;
   left = operand_at draft 2;
@@ -63,7 +63,7 @@ first_made true before after = after - 1
 first_made false before after = min before after
 
 -- what is seen of a step
-abbrev pub seen_by : Slots → Op → Before → Draft → Seen
+abbrev pub seen_by : Slots → Op → Before → StatementDraft → Seen
 seen_by slots op before new =
     let after = length new.instructions.items in
     let replaced = replaces op before.count after in record {
@@ -128,7 +128,7 @@ noted number replaced count made = record {
 }
 
 -- the names that a draft has for registers
-abbrev pub names_in : Slots → Layout → Draft → RegisterNames
+abbrev pub names_in : Slots → Layout → StatementDraft → RegisterNames
 names_in slots layout draft = record {
   slots = slots;
   layout = layout;
@@ -137,21 +137,21 @@ names_in slots layout draft = record {
 }
 
 -- one step more: its line, and who made the instructions
-abbrev pub line_by : Slots → Layout → (number : ℕ) → Op → (old new : Draft) → List ℕ
+abbrev pub line_by : Slots → Layout → (number : ℕ) → Op → (old new : StatementDraft) → List ℕ
 line_by slots layout number op old new =
     step_text (names_in slots layout new) number (seen_by slots op (before_of old) new)
 
-abbrev pub made_by : (number : ℕ) → Op → (old new : Draft) → Made → Made
+abbrev pub made_by : (number : ℕ) → Op → (old new : StatementDraft) → Made → Made
 made_by number op old new made =
     let count = length new.instructions.items in
     noted number (replaces op (length old.instructions.items) count) count made
 
 -- From draft to draft by operations, one after another, the lines of these steps, and who made the instructions. Behind
 -- each step the instructions do what the operations up to there do, and the facts hold of the values.
-pub data AreSteps (program : List StatementTree) (slots : Slots) (layout : Layout) : List Op → Draft → Draft → List ℕ
+pub data AreSteps (program : List StatementTree) (slots : Slots) (layout : Layout) : List Op → StatementDraft → StatementDraft → List ℕ
     → Made → Type 0 where
-  no_step : {d : Draft} → AreSteps program slots layout [] d d [] (record { first = []; store = 0 })
-  one_more : {ops : List Op} {op : Op} {first old new : Draft} {lines : List ℕ} {made : Made} →
+  no_step : {d : StatementDraft} → AreSteps program slots layout [] d d [] (record { first = []; store = 0 })
+  one_more : {ops : List Op} {op : Op} {first old new : StatementDraft} {lines : List ℕ} {made : Made} →
       AreSteps program slots layout ops first old lines made →
       Follows program slots layout op old new →
       Reached program slots layout (ops ++ op ∷ []) new →
@@ -160,7 +160,7 @@ pub data AreSteps (program : List StatementTree) (slots : Slots) (layout : Layou
       (made_by (length ops + 1) op old new made)
 
 -- a draft without instructions and operands, with the subscripts and the constants of another one
-pub record IsCleared (old new : Draft) : Type 0 where
+pub record IsCleared (old new : StatementDraft) : Type 0 where
   pub instructions : new.instructions.items ≡ []
   pub stack : new.stack.items ≡ []
   pub used : new.used ≡ 0
@@ -169,8 +169,8 @@ pub record IsCleared (old new : Draft) : Type 0 where
 
 -- the statement was lowered again by such steps, and their lines were added if they are asked for
 pub record HasSteps (program : List StatementTree) (slots : Slots) (layout : Layout) (asked : Bool) (ops : List Op)
-    (old new : Draft) (before after : Text) (made : Made) : Type 0 where
-  pub first : Draft
+    (old new : StatementDraft) (before after : Text) (made : Made) : Type 0 where
+  pub first : StatementDraft
   pub cleared : IsCleared old first
   pub lines : List ℕ
   pub steps : AreSteps program slots layout ops first new lines made

@@ -22,7 +22,7 @@ use crate::steps::Makers;
 use ick_bits::NoMemory;
 use ick_inspect::Text;
 use ick_instructions::{Instruction, Lowered, Operation};
-use ick_lowering::draft::Draft;
+use ick_lowering::draft::StatementDraft;
 use std::alloc::Global;
 
 /// An instruction that is left of a draft: its index, and the operation of the instruction that it
@@ -103,7 +103,7 @@ impl Sorted {
     /// Sorts all instructions of a draft. `kept` are those of the statement.
     pub fn sort_all(
         &mut self,
-        draft: &Draft,
+        draft: &StatementDraft,
         makers: &Makers,
         kept: &[Instruction],
     ) -> Result<(), NoMemory>
@@ -122,7 +122,7 @@ impl Sorted {
 }
 
 /// Returns the instruction of a draft at an index.
-fn instruction_at(draft: &Draft, at: usize) -> Instruction
+fn instruction_at(draft: &StatementDraft, at: usize) -> Instruction
     requires { at < length draft.now.instructions.items }
     ensures { slice_get draft.now.instructions.items at ≡ Some result }
 {
@@ -236,7 +236,7 @@ fn append_dropped_line(text: &mut Text, registers: &Registers<'_, '_>, maker: u3
 fn append_dropped_at(
     text: &mut Text,
     registers: &Registers<'_, '_>,
-    draft: &Draft,
+    draft: &StatementDraft,
     makers: &Makers,
     at: usize,
 )
@@ -252,7 +252,7 @@ fn append_dropped_at(
 pub fn append_dropped(
     text: &mut Text,
     registers: &Registers<'_, '_>,
-    draft: &Draft,
+    draft: &StatementDraft,
     makers: &Makers,
     dropped: &[usize],
 )

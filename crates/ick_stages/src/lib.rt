@@ -12,17 +12,25 @@
 //! | `left` | the instructions that are left of a statement, and those that are dropped |
 //! | `statement` | statements as `ick list` shows them, with their lines and columns |
 //! | `trace` | the traces that begin with a statement |
+//! | `point` | bytes of a source, with their lines and columns |
+//! | `placed`, `parts` | where a statement and its parts are, and where reading stops |
 //! | `stages` | the stages of a statement |
 //! | `writing` | the stages of a whole program, written statement by statement |
-//! | `laws` | different trees have different texts |
+//! | `fault`, `listed` | the faults of a source, and the lines of its statements, whether it is refused or not |
+//! | `laws` | different trees have different texts; statements begin where the cut of the source goes on |
 #![tactic(auto)]
 
 mod body;
+mod fault;
 mod instruction;
 mod laws;
 mod left;
+mod listed;
 mod names;
 mod operation;
+mod parts;
+mod placed;
+mod point;
 mod registers;
 mod rule;
 mod stages;
@@ -36,7 +44,8 @@ mod writing;
 
 pub use body::append_body;
 pub use instruction::append_instruction;
-pub use laws::one_tree;
+pub use laws::{one_tree, starts_of_cut};
+pub use listed::write_listed;
 pub use operation::{append_operation, append_operations};
 pub use registers::{Registers, append_register};
 pub use rule::{Step, append_rules};

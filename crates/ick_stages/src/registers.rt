@@ -9,7 +9,7 @@ use crate::names::append_slot;
 use ick_code::{Code, SlotName};
 use ick_inspect::Text;
 use ick_instructions::{Layout, Lowered};
-use ick_lowering::draft::Draft;
+use ick_lowering::draft::StatementDraft;
 
 /// What the registers of instructions hold: scalars by their slots, temporaries, and constants. An
 /// instruction names its subscripts by their indexes in a list of registers.
@@ -23,7 +23,11 @@ pub struct Registers<'a, 'c> {
 
 impl<'a, 'c> Registers<'a, 'c> {
     /// Returns the registers of a draft.
-    pub fn of_draft(code: &'a Code<'c>, layout: Layout, draft: &'a Draft) -> Registers<'a, 'c>
+    pub fn of_draft(
+        code: &'a Code<'c>,
+        layout: Layout,
+        draft: &'a StatementDraft,
+    ) -> Registers<'a, 'c>
         ensures { names_of result ≡ drafted code.now layout draft.now }
     {
         Registers {

@@ -6,9 +6,10 @@ ghost use Rattle.ick_inspect.specs.Text.{Adds};
 ghost use Rattle.ick_lowering.specs.Programs.{CanLower, LowersTo};
 ghost use Rattle.ick_stages.specs.Left.{dropped_text, instructions_text, kept_of, sorts_of};
 ghost use Rattle.ick_stages.specs.Operations.{operations_text};
+ghost use Rattle.ick_stages.specs.Parts.{parts_text_of};
 ghost use Rattle.ick_stages.specs.Registers.{drafted, lowered_names};
 ghost use Rattle.ick_stages.specs.Stages.{AddsStage, bottom_text, is_shown as shows};
-ghost use Rattle.ick_stages.specs.Stages.{top_text, tree_line};
+ghost use Rattle.ick_stages.specs.Stages.{needs_code, top_text, tree_line};
 ghost use Rattle.ick_stages.specs.Steps.{asked_text, made_of};
 ghost use Rattle.ick_stages.specs.Traces.{traces_text};
 ghost use Rattle.ick_syntax.specs.BodyTree.{body_tree_of};
@@ -17,15 +18,17 @@ ghost use Rattle.ick_syntax.specs.StatementTree.{statement_tree_of};
 use crate::body::append_body;
 use crate::left::{Sorted, append_dropped, append_instructions, instructions_of};
 use crate::operation::append_operations;
+use crate::parts::append_parts;
+use crate::placed::{Parts, Placed};
 use crate::registers::Registers;
 use crate::statement::append_line;
 use crate::steps::{Makers, append_steps};
 use crate::trace::{Place, append_traces};
 use ick_bits::NoMemory;
 use ick_code::Code;
-use ick_inspect::{Position, Text};
+use ick_inspect::Text;
 use ick_instructions::{Layout, Lowered};
-use ick_lowering::draft::Draft;
+use ick_lowering::draft::StatementDraft;
 use ick_syntax::{Body, Statement};
 use ick_traces::Candidate;
 use std::alloc::Global;
@@ -35,6 +38,10 @@ use std::alloc::Global;
 pub struct Asked {
     pub tree: bool,
     pub operations: bool,
+    /// The lines of the parts of which operations are made.
+    pub parts: bool,
+    /// All other lines of places. They are shown only with those of parts.
+    pub places: bool,
     pub rules: bool,
     pub instructions: bool,
     pub traces: bool,
@@ -46,7 +53,7 @@ pub struct Asked {
 /// what becomes of these. The place is where a run is along a trace.
 #[derive(Drop)]
 pub struct Work {
-    pub draft: Draft,
+    pub draft: StatementDraft,
     makers: Makers,
     sorted: Sorted,
     place: Place,
@@ -59,7 +66,7 @@ impl Work {
         ensures constants { result.draft.constants.list.items ≡ [] }
     {
         Work {
-            draft: Draft::new(alloc),
+            draft: StatementDraft::new(alloc),
             makers: Makers {
                 first: Vec::new(alloc),
                 store: 0,
@@ -70,8 +77,17 @@ impl Work {
     }
 }
 
+impl Asked {
+    /// Returns whether any lines are asked for that a program's code gives.
+    pub fn needs_code(&self) -> bool
+        ensures { result ≡ needs_code self.now }
+    {
+        self.operations || self.rules || self.instructions || self.traces
+    }
+}
+
 /// Returns whether a statement is shown.
-fn is_shown(only: Option<u32>, n: u32) -> bool
+pub fn is_shown(only: Option<u32>, n: u32) -> bool
     ensures { result ≡ shows only n }
 {
     match only {
@@ -81,14 +97,14 @@ fn is_shown(only: Option<u32>, n: u32) -> bool
 }
 
 /// Returns whether a statement is shown and its lines are asked for.
-fn are_both(shown: bool, asked: bool) -> bool
+pub fn are_both(shown: bool, asked: bool) -> bool
     ensures { result ≡ shown && asked }
 {
     shown && asked
 }
 
 /// Appends the tree of a statement, if it is asked for.
-fn append_tree_line(text: &mut Text, body: &Body, asked: bool)
+pub fn append_tree_line(text: &mut Text, body: &Body, asked: bool)
     ensures { Adds text.old text.new (asked_text asked (tree_line (body_tree_of body.now))) }
 {
     if asked {
@@ -117,24 +133,36 @@ fn append_operation_lines(text: &mut Text, code: &Code<'_>, n: u32, asked: bool)
     }
 }
 
-/// Appends the lines of a statement that its text gives: its own line, its tree and its operations.
+/// Appends the lines of the parts of a statement, if they were found.
+pub fn append_parts_of(text: &mut Text, parts: &Option<Parts>, all: bool)
+    ensures { Adds text.old text.new (parts_text_of parts.now all) }
+{
+    match parts {
+        None => {}
+        Some(parts) => append_parts(text, parts, all),
+    }
+}
+
+/// Appends the lines of a statement that its text gives: its own line, its tree, its operations and
+/// the places of its parts.
 #[tactic(auto, unfolding(crate::specs::Stages::top_text))]
 fn append_top(
     text: &mut Text,
     code: &Code<'_>,
     statement: &Statement<'_>,
-    position: Position,
+    placed: &Placed,
     n: u32,
     asked: &Asked,
 )
     requires first { 1 ≤ n }
     requires last { n ≤ length (code_program code.now) }
     ensures { Adds text.old text.new
-        (top_text code.now asked.now n (statement_tree_of statement.now) position) }
+        (top_text code.now asked.now n (statement_tree_of statement.now) placed.now) }
 {
-    append_line(text, n, statement, position);
+    append_line(text, n, statement, placed.position);
     append_tree_line(text, &statement.body, asked.tree);
     append_operation_lines(text, code, n, asked.operations);
+    append_parts_of(text, &placed.parts, asked.places);
 }
 
 /// Appends the lines of the instructions of a draft that are dropped, if they are asked for.
@@ -197,7 +225,7 @@ fn append_top_if(
     text: &mut Text,
     code: &Code<'_>,
     statement: &Statement<'_>,
-    position: Position,
+    placed: &Placed,
     n: u32,
     asked: &Asked,
     shown: bool,
@@ -205,10 +233,10 @@ fn append_top_if(
     requires first { 1 ≤ n }
     requires last { n ≤ length (code_program code.now) }
     ensures { Adds text.old text.new (asked_text shown
-        (top_text code.now asked.now n (statement_tree_of statement.now) position)) }
+        (top_text code.now asked.now n (statement_tree_of statement.now) placed.now)) }
 {
     if shown {
-        append_top(text, code, statement, position, n, asked);
+        append_top(text, code, statement, placed, n, asked);
     }
 }
 
@@ -257,7 +285,7 @@ pub fn append_stage(
     traces: &Option<Candidate>,
     layout: Layout,
     statement: &Statement<'_>,
-    position: Position,
+    placed: &Placed,
     n: u32,
     asked: &Asked,
 ) -> Result<(), NoMemory>
@@ -269,11 +297,11 @@ pub fn append_stage(
     ensures lowers { OnOk result (LowersTo lowered.now.code.now layout
         (code_ops lowered.now.code.now n) work.old.draft work.new.draft) }
     ensures stage { OnOk result (AddsStage lowered.now traces.now layout asked.now n
-        (statement_tree_of statement.now) position work.old.draft work.new.draft
+        (statement_tree_of statement.now) placed.now work.old.draft work.new.draft
         text.old text.new) }
 {
     let shown = is_shown(asked.only, n);
-    append_top_if(text, lowered.code, statement, position, n, asked, shown);
+    append_top_if(text, lowered.code, statement, placed, n, asked, shown);
     let lines = are_both(shown, asked.rules);
     append_steps(
         text,

@@ -6,7 +6,7 @@ ghost use Rattle.ick_source.specs.Listing.{label_text};
 ghost use Rattle.ick_stages.specs.Statements.{end_text, front_text, head_text, placed_line};
 ghost use Rattle.ick_syntax.specs.StatementTree.{statement_tree_of};
 
-use ick_inspect::{Position, Text, append_position};
+use ick_inspect::{LineColumn, Text, append_position};
 use ick_syntax::Statement;
 
 /// Appends the label of a statement in parentheses, or `-`.
@@ -42,7 +42,7 @@ fn head_words(polite: bool, abstained: bool) -> &'static [u8]
 
 /// Appends the number of a statement, its position and its label.
 #[tactic(auto, unfolding(crate::specs::Statements::front_text))]
-fn append_front(text: &mut Text, number: u32, position: Position, label: Option<u16>)
+fn append_front(text: &mut Text, number: u32, position: LineColumn, label: Option<u16>)
     ensures { Adds text.old text.new (front_text number position label) }
 {
     text.push_decimal(u64::from(number));
@@ -68,7 +68,7 @@ fn append_end(text: &mut Text, chance: u8, kind: &[u8], words: &[u8])
 /// Appends the line of statement `n`: that of `ick list`, with the statement's position behind its
 /// number.
 #[tactic(auto, unfolding(crate::specs::Statements::placed_line))]
-pub fn append_line(text: &mut Text, n: u32, statement: &Statement<'_>, position: Position)
+pub fn append_line(text: &mut Text, n: u32, statement: &Statement<'_>, position: LineColumn)
     ensures { Adds text.old text.new (placed_line n position (statement_tree_of statement.now)) }
 {
     append_front(text, n, position, statement.label);

@@ -24,7 +24,7 @@ use ick_bits::NoMemory;
 use ick_code::{Code, Op};
 use ick_inspect::Text;
 use ick_instructions::{Instruction, Layout};
-use ick_lowering::draft::Draft;
+use ick_lowering::draft::StatementDraft;
 use ick_lowering::rules::add_operation;
 use ick_lowering::value::Operand;
 use ick_syntax::NameKind;
@@ -41,7 +41,7 @@ pub struct Before {
 
 impl Before {
     /// Returns what a draft has.
-    fn of(draft: &Draft) -> Before
+    fn of(draft: &StatementDraft) -> Before
         ensures { result ≡ before_of draft.now }
     {
         Before {
@@ -53,7 +53,7 @@ impl Before {
 }
 
 /// Returns the operand with so many from it on.
-fn operand_at(draft: &Draft, newest: usize) -> Option<Operand>
+fn operand_at(draft: &StatementDraft, newest: usize) -> Option<Operand>
     ensures { result ≡ operand_in draft.now newest }
 {
     draft
@@ -80,7 +80,7 @@ fn is_twospot(code: &Code<'_>, op: Op) -> bool
 }
 
 /// Returns what is seen of a step.
-fn step_of<'a>(code: &Code<'_>, op: Op, before: &Before, draft: &'a Draft) -> Step<'a>
+fn step_of<'a>(code: &Code<'_>, op: Op, before: &Before, draft: &'a StatementDraft) -> Step<'a>
     ensures { seen_of result ≡ seen_by (code_slots code.now) op before.now draft.now }
 {
     let after = draft.instructions.len();
@@ -207,7 +207,7 @@ impl Makers {
 /// Lowers one more operation, which is operation `number` of its statement.
 fn append_next(
     text: &mut Text,
-    draft: &mut Draft,
+    draft: &mut StatementDraft,
     makers: &mut Makers,
     code: &Code<'_>,
     layout: Layout,
@@ -238,7 +238,7 @@ fn append_next(
 #[tactic(auto, using(ick_lowering::proofs::Statements::lists_of_operations))]
 pub fn append_steps(
     text: &mut Text,
-    draft: &mut Draft,
+    draft: &mut StatementDraft,
     makers: &mut Makers,
     code: &Code<'_>,
     layout: Layout,

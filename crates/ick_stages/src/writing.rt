@@ -1,22 +1,27 @@
 //! The stages of a whole program, written statement by statement.
 
-ghost use Rattle.std.specs.Prelude.{◌≡◌, ◌+◌, ◌<◌, ◌≤◌, ◌^◌, IfOk, None, OnOk, Some, false};
-ghost use Rattle.std.specs.Prelude.{length, slice_get, true};
+ghost use Rattle.std.specs.Prelude.{◌≡◌, ◌+◌, ◌<◌, ◌≤◌, ◌^◌, IfOk, None, OnOk, false};
+ghost use Rattle.std.specs.Prelude.{length, true};
 ghost use Rattle.ick_code.specs.Compiled.{code_ops, code_program};
 ghost use Rattle.ick_explorer.specs.Writes.{write_failures};
 ghost use Rattle.ick_lowering.specs.Programs.{CanLower, LowersTo};
+ghost use Rattle.ick_stages.specs.Lines.{WritesPiece, WritesText};
 ghost use Rattle.ick_stages.specs.Stages.{IsReady, Writes};
+ghost use Rattle.ick_stages.specs.Starts.{IsPoint};
 ghost use Rattle.ick_stages.specs.Traces.{AreOfProgram};
-ghost use Rattle.ick_stages.specs.Writing.{WritesStage, WritesText};
+ghost use Rattle.ick_stages.specs.Writing.{HasPiece};
 ghost use Rattle.ick_syntax.specs.Programs.{trees_of};
 ghost use Rattle.ick_syntax.specs.StatementTree.{statement_tree_of};
 
-use crate::stages::{Asked, Work, append_stage};
+use crate::placed::placed_at;
+use crate::point::Point;
+use crate::stages::{Asked, Work, append_stage, are_both, is_shown};
 use crate::trace::traces_of;
 use ick_bits::NoMemory;
 use ick_code::Code;
-use ick_explorer::{ByteSink, RunsError, write_whole};
-use ick_inspect::{Position, Text, positions_of};
+use ick_devices::{ByteSink, write_whole};
+use ick_explorer::RunsError;
+use ick_inspect::Text;
 use ick_instructions::{Layout, Lowered};
 use ick_lowering::lower;
 use ick_lowering::lowering::layout_of;
@@ -31,39 +36,21 @@ pub struct Ready<'a, 'c> {
     /// The traces of the program, if their lines are asked for.
     pub traces: Option<Candidate>,
     pub layout: Layout,
-    pub positions: Vec<Position>,
 }
 
 impl<'a, 'c> Ready<'a, 'c> {
     /// Lowers a code that was compiled from a source, and finds where its statements are.
-    fn new(
-        alloc: Global,
-        source: &[u8],
-        code: &'a Code<'c>,
-        asked: &Asked,
-    ) -> Result<Ready<'a, 'c>, NoMemory>
-        ensures ready { IfOk result (IsReady code.now source.now asked.now) }
-        ensures count { IfOk result (λ ready.
-            length ready.positions.items ≡ length (code_program code.now)) }
+    fn new(alloc: Global, code: &'a Code<'c>, asked: &Asked) -> Result<Ready<'a, 'c>, NoMemory>
+        ensures ready { IfOk result (IsReady code.now asked.now) }
     {
         let lowered = lower(alloc, code)?;
         let traces = traces_if(alloc, &lowered, asked.traces)?;
         let layout = layout_of(code)?;
-        let positions = positions_of(alloc, source, code)?;
         Ok(Ready {
             lowered,
             traces,
             layout,
-            positions,
         })
-    }
-
-    /// Returns the position of the statement at an index.
-    fn position(&self, at: u32) -> Position
-        requires { at < length self.now.positions.items }
-        ensures { slice_get self.now.positions.items at ≡ Some result }
-    {
-        self.positions[at as usize]
     }
 }
 
@@ -83,7 +70,7 @@ fn traces_if(
 }
 
 /// Writes bytes whole.
-fn write_bytes<W: ByteSink>(writer: &mut W, bytes: &[u8]) -> Result<(), RunsError>
+pub fn write_bytes<W: ByteSink>(writer: &mut W, bytes: &[u8]) -> Result<(), RunsError>
     requires { W.failed writer.old + 1 < 2 ^ 64 }
     ensures count { W.failed writer.new ≡ W.failed writer.old + write_failures result }
     ensures written { W.told ≡ true → WritesText false bytes.now
@@ -96,7 +83,7 @@ fn write_bytes<W: ByteSink>(writer: &mut W, bytes: &[u8]) -> Result<(), RunsErro
 }
 
 /// Writes a text, unless memory was refused for it.
-fn write_text<W: ByteSink>(writer: &mut W, text: &Text) -> Result<(), RunsError>
+pub fn write_text<W: ByteSink>(writer: &mut W, text: &Text) -> Result<(), RunsError>
     requires { W.failed writer.old + 1 < 2 ^ 64 }
     ensures count { W.failed writer.new ≡ W.failed writer.old + write_failures result }
     ensures written { W.told ≡ true → WritesText text.now.refused text.now.bytes.items
@@ -110,17 +97,20 @@ fn write_text<W: ByteSink>(writer: &mut W, text: &Text) -> Result<(), RunsError>
 
 /// Lowers statement `n` again, and writes the lines of its stages that are asked for, all at once.
 fn write_stage<W: ByteSink>(
+    alloc: Global,
     writer: &mut W,
     text: &mut Text,
     work: &mut Work,
     ready: &Ready<'_, '_>,
+    source: &[u8],
+    start: Point,
     statement: &Statement<'_>,
     n: u32,
     asked: &Asked,
 ) -> Result<(), RunsError>
     requires first { 1 ≤ n }
     requires last { n ≤ length (code_program ready.now.lowered.code.now) }
-    requires there { n ≤ length ready.now.positions.items }
+    requires point { IsPoint source.now start }
     requires few { n < 4294967295 }
     requires lowers { CanLower ready.now.lowered.code.now ready.now.layout
         (code_ops ready.now.lowered.code.now n) work.old.draft }
@@ -128,12 +118,16 @@ fn write_stage<W: ByteSink>(
     ensures lowers { OnOk result (LowersTo ready.now.lowered.code.now ready.now.layout
         (code_ops ready.now.lowered.code.now n) work.old.draft work.new.draft) }
     ensures count { W.failed writer.new ≡ W.failed writer.old + write_failures result }
-    ensures written { W.told ≡ true → WritesStage ready.now asked.now n
-        (statement_tree_of statement.now) work.old.draft work.new.draft
+    ensures written { W.told ≡ true → WritesPiece (HasPiece ready.now source.now
+        asked.now n start.at (statement_tree_of statement.now) work.old.draft work.new.draft)
         (W.written writer.old) (W.written writer.new) result }
 {
-    let position = ready.position(n - 1);
     text.clear();
+    let wanted = are_both(is_shown(asked.only, n), asked.parts);
+    let placed = match placed_at(alloc, source, start, statement, wanted) {
+        Ok(placed) => placed,
+        Err(NoMemory) => return Err(RunsError::NoMemory),
+    };
     let made = append_stage(
         text,
         work,
@@ -141,7 +135,7 @@ fn write_stage<W: ByteSink>(
         &ready.traces,
         ready.layout,
         statement,
-        position,
+        &placed,
         n,
         asked,
     );
@@ -173,20 +167,25 @@ pub fn write_stages<W: ByteSink>(
 {
     // What is lowered again needs that the operations are those of the program.
     code.law();
-    let ready = match Ready::new(alloc, source, code, asked) {
+    let ready = match Ready::new(alloc, code, asked) {
         Ok(ready) => ready,
         Err(NoMemory) => return Err(RunsError::NoMemory),
     };
     let statements = program.statements();
     let mut work = Work::new(alloc);
     let mut text = Text::new(alloc);
+    let mut point = Point::first();
     for at in 0..code.count() {
         let statement = &statements[at as usize];
+        let start = point.past_white(source);
         match write_stage(
+            alloc,
             writer,
             &mut text,
             &mut work,
             &ready,
+            source,
+            start,
             statement,
             at + 1,
             asked,
@@ -194,6 +193,7 @@ pub fn write_stages<W: ByteSink>(
             Ok(()) => {}
             Err(refused) => return Err(refused),
         }
+        point = start.past_text(source, statement.text);
     }
     write_bytes(writer, b"DONE\n")
 }

@@ -1,9 +1,13 @@
 -- What a job's end gives, and the counts that it leaves.
-use Rattle.std.proofs.Common.{◌≡◌, ◌∙◌, ◌+◌, ◌<◌, ◌≤◌, ◌==◌, if◌then◌else◌, ℕ, Bool, true, false, List, []}
+use Rattle.std.proofs.Common.{◌≡◌, ◌∙◌, ◌+◌, ◌<◌, ◌≤◌, ◌==◌, if◌then◌else◌, ℕ, Bool, true, false, List, [], ◌∷◌, ◌++◌}
 use Rattle.std.proofs.Common.{Option, Some, None, ap, arith, refl, subst, sym, inl, inr, length, drop, take, ne_eqb, eq-eqb}
 use Rattle.std.specs.Prelude.{Result, Ok, Err}
 use Rattle.std.proofs.lemmas.List.{append-nil, length-take, take_all}
 use Rattle.ick_bits.specs.Faults.{message_of}
+use Rattle.ick_bits.specs.declared.faults.FaultKind.{FaultKind}
+use Rattle.ick_source.specs.declared.all_faults.FaultAt.{FaultAt}
+use Rattle.ick_source.specs.declared.statements.Listed.{Listed}
+use Rattle.ick_source.specs.Listed.{IsAnsweredBy, IsListed, RefusesToList}
 use Rattle.ick_source.specs.RefusalAnswers.{Refuses}
 use Rattle.ick_source.specs.Refusals.{longest}
 use Rattle.ick_source.specs.declared.refusals.Refusal.{Refusal}
@@ -18,18 +22,17 @@ use Rattle.ick_job.specs.declared.job_end.JobEnd.TheVariants.{Answered, NoMemory
 use Rattle.ick_job.specs.declared.job_end.JobEnd.TheVariants.{WriteFailed}
 use Rattle.ick_job.specs.declared.notice.Notice.TheVariants as notice
 use Rattle.ick_job.proofs.Ends.{leaves_as, leaves_by}
-use Rattle.ick_code.specs.Compiled.{code_program}
-use Rattle.ick_code.specs.declared.code.Code.{Code}
+use Rattle.ick_syntax.specs.StatementTree.{StatementTree}
 use Rattle.ick_explorer.specs.Writes.{write_failures}
 use Rattle.ick_explorer.specs.declared.errors.RunsError.{RunsError}
 use Rattle.ick_explorer.specs.declared.errors.RunsError.TheVariants as error
-use Rattle.ick_stages.specs.Stages.{AreWhole, Writes}
+use Rattle.ick_stages.specs.Lines.{WritesLines}
 use Rattle.ick_stages.specs.declared.stages.Asked.{Asked}
 use Rattle.ick_stages_cli.specs.Gives.{Gives, end_by}
 use Rattle.ick_stages_cli.specs.Job.{Wanted}
 use Rattle.ick_stages_cli.specs.Program.{left_by}
-use Rattle.ick_stages_cli.specs.Tool.{AreShown, IsCodeAnswer, IsSourceAnswer, IsStagesAnswer, MayShow, compiled, of_source}
-use Rattle.ick_stages_cli.specs.Tool.{is_there, lines_of, no_line, not_read, nothing, read, refused, stages, too_long}
+use Rattle.ick_stages_cli.specs.Tool.{AreShown, IsSomehowRefused, IsSourceAnswer, IsStagesAnswer, MayShow, compiled}
+use Rattle.ick_stages_cli.specs.Tool.{lines_listed, lines_of, listed, no_line, not_read, nothing, of_source, read, too_long}
 
 -- other answers, and other lines
 pub gives_so : {A B : Answer → Type 0} {L M : List ℕ → Type 0} (job_end : JobEnd) (before after : List ℕ)
@@ -53,18 +56,16 @@ gives_refusal A L status text FileNotRead before h is none = absurd h
 gives_refusal A L status text ReadFailed before h is none = absurd h
 gives_refusal A L status text WriteFailed before h is none = absurd h
 
--- the answer of a code whose lines are written
-pub gives_written : {T : Type 0} (asked : Asked) (source : List ℕ) (code : Code) (before after : List ℕ)
+-- an answer whose lines are written
+pub gives_lines : {T : Type 0} (A : Answer → Type 0) (All L : List ℕ → Type 0) (before after : List ℕ)
     (result : Result T RunsError) (job_end : JobEnd) → job_end ≡ end_by result
-    → is_there asked.only (length (code_program code)) ≡ true → Writes code source asked before after result
-    → Gives (IsCodeAnswer asked source code) (AreWhole code source asked) job_end before after
-gives_written {T} asked source code before after result job_end is there written =
-    subst (λ (e : JobEnd). Gives (IsCodeAnswer asked source code) (AreWhole code source asked) e before after) (sym is)
-    (by_result result written)
+    → ((text : List ℕ) → All text → A (shown text)) → WritesLines All L before after result
+    → Gives A L job_end before after
+gives_lines {T} A All L before after result job_end is so written =
+    subst (λ (e : JobEnd). Gives A L e before after) (sym is) (by_result result written)
   where
-    by_result : (r : Result T RunsError) → Writes code source asked before after r
-        → Gives (IsCodeAnswer asked source code) (AreWhole code source asked) (end_by r) before after
-    by_result (Ok _) h = (shown h.0, stages h.0 there h.1, ((refl, refl), h.2))
+    by_result : (r : Result T RunsError) → WritesLines All L before after r → Gives A L (end_by r) before after
+    by_result (Ok _) h = (shown h.0, so h.0 h.1, ((refl, refl), h.2))
     by_result (Err error.NoMemory) h = h
     by_result (Err error.Write) h = h
     by_result (Err error.NoSuchRun) h = absurd h
@@ -72,6 +73,36 @@ gives_written {T} asked source code before after result job_end is there written
     by_result (Err error.Failed) h = absurd h
     by_result (Err error.BadCursor) h = absurd h
     by_result (Err error.Read) h = absurd h
+
+-- an answer whose lines could not be written
+pub gives_failed : (T : Type 0) (A : Answer → Type 0) (All L : List ℕ → Type 0) (before after : List ℕ)
+    (e : RunsError) (job_end : JobEnd) → job_end ≡ end_by {T = T} (Err e)
+    → WritesLines {T = T} All L before after (Err e) → Gives A L job_end before after
+gives_failed T A All L before after e job_end is written =
+    subst (λ (e : JobEnd). Gives A L e before after) (sym is) (by_error e written)
+  where
+    by_error : (e : RunsError) → WritesLines {T = T} All L before after (Err e)
+        → Gives A L (end_by {T = T} (Err e)) before after
+    by_error error.NoMemory h = h
+    by_error error.Write h = h
+    by_error error.NoSuchRun h = absurd h
+    by_error error.WorkFull h = absurd h
+    by_error error.Failed h = absurd h
+    by_error error.BadCursor h = absurd h
+    by_error error.Read h = absurd h
+
+-- a message behind all lines
+pub gives_message : (A : Answer → Type 0) (L : List ℕ → Type 0) (status : ℕ) (message text : List ℕ) (job_end : JobEnd)
+    (before after : List ℕ) → EndsBy status message job_end
+    → A (record { output = text; errors = message; status = status }) → L text → after ≡ before ++ text
+    → Gives A L job_end before after
+gives_message A L status message text (Answered given said) before after h is whole written =
+    (record { output = text; errors = message; status = status }, is, (h, written))
+gives_message A L status message text NoMemory before after h is whole written = (text, whole, written)
+gives_message A L status message text InputTooLong before after h is whole written = absurd h
+gives_message A L status message text FileNotRead before after h is whole written = absurd h
+gives_message A L status message text ReadFailed before after h is whole written = absurd h
+gives_message A L status message text WriteFailed before after h is whole written = absurd h
 
 pub leaves_written : {T : Type 0} (result : Result T RunsError) (job_end : JobEnd) (w w' : ℕ) → job_end ≡ end_by result
     → w' ≡ w + write_failures result → LeavesWriter job_end w w'
@@ -91,19 +122,31 @@ leaves_written {T} result job_end w w' is count =
     by_result (Err error.BadCursor) same = nothing_left same
     by_result (Err error.Read) same = nothing_left same
 
--- a source that is refused
+-- a source that is refused without lines
 pub gives_refused : (asked : Asked) (source : List ℕ) (why : Refusal) (job_end : JobEnd) (before : List ℕ) →
-    Refuses source why → EndsRefused why job_end
+    RefusesToList source why → EndsRefused why job_end
     → Gives (IsSourceAnswer asked source) (AreShown asked source) job_end before before
-gives_refused asked source (refusal.Fault kind n) job_end before is ends =
-    gives_refusal (IsSourceAnswer asked source) (AreShown asked source) 2 (message_of kind n []) job_end before ends
-    (refused kind n is.refused) no_line
+gives_refused asked source (refusal.Fault kind n) job_end before is ends = absurd is
 gives_refused asked source refusal.TooLong job_end before long ends =
     subst (λ (e : JobEnd). Gives (IsSourceAnswer asked source) (AreShown asked source) e before before) (sym ends)
     (_, too_long long, ((refl, refl), sym (append-nil before)))
 gives_refused asked source refusal.NoMemory job_end before is ends =
     subst (λ (e : JobEnd). Gives (IsSourceAnswer asked source) (AreShown asked source) e before before) (sym ends)
     ([], no_line, sym (append-nil before))
+
+-- a refusal that is no fault
+pub refuses_so : (source : List ℕ) (why : Refusal) → ((kind : FaultKind) (n : ℕ) → why ≡ refusal.Fault kind n → ⊥) →
+    Refuses source why → RefusesToList source why
+refuses_so source (refusal.Fault kind n) never is = absurd (never kind n refl)
+refuses_so source refusal.TooLong never is = is
+refuses_so source refusal.NoMemory never is = is
+
+-- the fault of a refusal
+pub somehow : (source : List ℕ) (why : Refusal) (kind : FaultKind) (n : ℕ) → why ≡ refusal.Fault kind n →
+    Refuses source why → IsSomehowRefused source
+somehow source (refusal.Fault k m) kind n e is = (k, m, is.refused)
+somehow source refusal.TooLong kind n e is = absurd cc
+somehow source refusal.NoMemory kind n e is = absurd cc
 
 -- a file that was not read
 abbrev pub read_if : ℕ → ℕ → List ℕ → Option (List ℕ)
@@ -137,21 +180,33 @@ whole_front : (most : ℕ) (source : List ℕ) → longest < most → length (ta
     → take most source ≡ source
 whole_front most source long fits = let size = length-take most source in take_all most source (omega arith)
 
+by_answer : (text : List ℕ) (trees : List StatementTree) (faults : List FaultAt) → IsAnsweredBy text trees faults →
+    length text ≤ longest
+by_answer text trees [] h = h.fits
+by_answer text trees (first ∷ others) h = h.fits
+
+listed_fits : {text : List ℕ} {x : Listed} → IsListed text x → length text ≤ longest
+listed_fits {text} {x} h = by_answer text h.trees x.faults.items h.answer
+
 pub source_of_front : (asked : Asked) (most : ℕ) (source : List ℕ) → longest < most
     → (answer : Answer) → IsSourceAnswer asked (take most source) answer → IsSourceAnswer asked source answer
 source_of_front asked most source long answer (too_long h) =
     too_long (let size = length-take most source in omega arith)
-source_of_front asked most source long answer (refused kind n h) =
-    subst (λ (t : List ℕ). IsSourceAnswer asked t answer) (whole_front most source long h.fits) (refused kind n h)
-source_of_front asked most source long answer (compiled code given h law is) =
+source_of_front asked most source long answer (listed x given h may is) =
+    subst (λ (t : List ℕ). IsSourceAnswer asked t answer) (whole_front most source long (listed_fits h))
+    (listed x answer h may is)
+source_of_front asked most source long answer (compiled code given needs h law is) =
     subst (λ (t : List ℕ). IsSourceAnswer asked t answer) (whole_front most source long h.fits)
-    (compiled code answer h law is)
+    (compiled code answer needs h law is)
 
 pub shown_of_front : (asked : Asked) (most : ℕ) (source : List ℕ) → longest < most
     → (lines : List ℕ) → AreShown asked (take most source) lines → AreShown asked source lines
 shown_of_front asked most source long lines no_line = no_line
 shown_of_front asked most source long lines (lines_of code given h law are) =
     subst (λ (t : List ℕ). AreShown asked t lines) (whole_front most source long h.fits) (lines_of code lines h law are)
+shown_of_front asked most source long lines (lines_listed x given h are) =
+    subst (λ (t : List ℕ). AreShown asked t lines) (whole_front most source long (listed_fits h))
+    (lines_listed x lines h are)
 
 -- a job's end that leaves everything as it was
 pub leaves_nothing : (f r w : ℕ) → Leaves NoMemory f f r r w w

@@ -17,10 +17,10 @@ wanted j = record { asked = j.asked; file = option_map (λ s. s.now) j.file }
 -- the lines of a stage are named
 abbrev pub names_some : List Row → Bool
 names_some rows =
-    flag_in (codes "tree") rows || flag_in (codes "operations") rows || flag_in (codes "rules") rows
-    || flag_in (codes "instructions") rows || flag_in (codes "traces") rows
+    flag_in (codes "tree") rows || flag_in (codes "operations") rows || flag_in (codes "parts") rows
+    || flag_in (codes "rules") rows || flag_in (codes "instructions") rows || flag_in (codes "traces") rows
 
--- the lines of a stage are asked for: they are named, or none are
+-- the lines of a stage are asked for: they are named, or none are; those of all places only if they are named
 abbrev pub asked_in : Text → List Row → Bool
 asked_in name rows = flag_in name rows || not (names_some rows)
 
@@ -29,6 +29,8 @@ wanted_in rows = record {
   asked = record {
     tree = asked_in (codes "tree") rows;
     operations = asked_in (codes "operations") rows;
+    parts = asked_in (codes "parts") rows;
+    places = flag_in (codes "parts") rows;
     rules = asked_in (codes "rules") rows;
     instructions = asked_in (codes "instructions") rows;
     traces = asked_in (codes "traces") rows;

@@ -6,7 +6,7 @@ use Rattle.clap.specs.declared.builder.ArgAction.TheVariants.{SetTrue}
 use Rattle.clap.specs.declared.builder.value_parser.ValueParser.TheVariants.{Signed}
 use Rattle.ick_job.specs.Words.{bug_rule, file_rule, option_rule}
 
--- --tree, --operations, --rules, --instructions and --traces
+-- --tree, --operations, --parts, --rules, --instructions and --traces
 abbrev pub flag_rule : Text → Rule
 flag_rule name = record (new_rule name) { long = Some name; action = Some SetTrue }
 
@@ -20,8 +20,8 @@ stages_app = record {
   top = record (new_shape (codes "ick-stages")) {
     no_binary_name = true;
     rules =
-        bug_rule ∷ flag_rule (codes "tree") ∷ flag_rule (codes "operations") ∷ flag_rule (codes "rules")
-        ∷ flag_rule (codes "instructions") ∷ flag_rule (codes "traces") ∷ statement_rule ∷ file_rule ∷ [];
+        bug_rule ∷ flag_rule (codes "tree") ∷ flag_rule (codes "operations") ∷ flag_rule (codes "parts")
+        ∷ flag_rule (codes "rules") ∷ flag_rule (codes "instructions") ∷ flag_rule (codes "traces") ∷ statement_rule ∷ file_rule ∷ [];
   };
   subs = [];
 }

@@ -1,23 +1,29 @@
 //! From a job to its answer: the source is read, then compiled, then its stages are shown.
 
-ghost use Rattle.std.specs.Prelude.{◌≡◌, ◌+◌, ◌<◌, ◌^◌, false, true};
+ghost use Rattle.std.specs.Prelude.{◌≡◌, ◌+◌, ◌<◌, ◌^◌, ◌∷◌, [], List, false, true};
 ghost use Rattle.ick_code.specs.Compiled.{code_program};
 ghost use Rattle.ick_job.specs.JobEnd.{EndsBy, Leaves, LeavesWriter, WhereAnswered, source_of};
-ghost use Rattle.ick_stages.specs.Stages.{AreWhole};
+ghost use Rattle.ick_source.specs.declared.all_faults.FaultAt.{FaultAt};
+ghost use Rattle.ick_source.specs.RefusalAnswers.{Refuses};
+ghost use Rattle.ick_source.specs.Refusals.{Compiles};
+ghost use Rattle.ick_stages.specs.Listed.{AreSome};
+ghost use Rattle.ick_stages.specs.Stages.{AreWhole, needs_code};
 ghost use Rattle.ick_stages_cli.specs.Gives.{Gives, end_by};
 ghost use Rattle.ick_stages_cli.specs.Job.{has_file, wanted};
 ghost use Rattle.ick_stages_cli.specs.Program.{left_by};
-ghost use Rattle.ick_stages_cli.specs.Tool.{AreShown, IsCodeAnswer, IsSourceAnswer};
+ghost use Rattle.ick_stages_cli.specs.Tool.{AreShown, IsCodeAnswer, IsListedAnswer};
+ghost use Rattle.ick_stages_cli.specs.Tool.{IsSomehowRefused, IsSourceAnswer};
 ghost use Rattle.ick_stages_cli.specs.Tool.{IsStagesAnswer, MayShow, is_there, no_statement};
 ghost use Rattle.ick_syntax.specs.Programs.{trees_of};
 
 use crate::words::Job;
 use ick_bits::NoMemory;
 use ick_code::{Code, compile};
-use ick_explorer::{ByteSink, ByteSource, RunsError};
-use ick_job::{Files, JobEnd, Message, read_file, read_front, refused};
-use ick_source::read_source;
-use ick_stages::{Asked, write_stages};
+use ick_devices::{ByteSink, ByteSource, Files};
+use ick_explorer::RunsError;
+use ick_job::{JobEnd, Message, read_file, read_front, refused};
+use ick_source::{FaultAt, Refusal, Seen, read_source, read_statements};
+use ick_stages::{Asked, write_listed, write_stages};
 use ick_syntax::Program;
 use std::alloc::Global;
 
@@ -59,7 +65,7 @@ pub fn perform<F: Files, R: ByteSource, W: ByteSink>(
     }
 }
 
-/// Answers a source: it is refused, or its program is compiled.
+/// Answers a source: by its code if any lines are asked for that need it, else by its statements.
 fn answer_source<W: ByteSink>(alloc: Global, asked: &Asked, source: &[u8], writer: &mut W) -> JobEnd
     requires { W.failed writer.old + 1 < 2 ^ 64 }
     ensures leaves { LeavesWriter result (W.failed writer.old) (W.failed writer.new) }
@@ -67,15 +73,145 @@ fn answer_source<W: ByteSink>(alloc: Global, asked: &Asked, source: &[u8], write
         (AreShown asked.now source.now) result
         (W.written writer.old) (W.written writer.new) }
 {
-    let program = match read_source(alloc, source) {
-        Ok(program) => program,
-        Err(refusal) => return refused(alloc, refusal),
-    };
-    match compile(alloc, &program) {
+    if !asked.needs_code() {
+        return answer_listed(alloc, asked, source, writer);
+    }
+    match read_source(alloc, source) {
+        Ok(program) => answer_program(alloc, asked, source, &program, writer),
+        Err(refusal) => answer_refused(alloc, asked, source, refusal, writer),
+    }
+}
+
+/// Answers a source that is refused: by its statements, unless it is too long or memory ran out.
+fn answer_refused<W: ByteSink>(
+    alloc: Global,
+    asked: &Asked,
+    source: &[u8],
+    refusal: Refusal,
+    writer: &mut W,
+) -> JobEnd
+    requires refuses { Refuses source.now refusal }
+    requires sound { W.failed writer.old + 1 < 2 ^ 64 }
+    ensures leaves { LeavesWriter result (W.failed writer.old) (W.failed writer.new) }
+    ensures gives { W.told ≡ true → Gives (IsSourceAnswer asked.now source.now)
+        (AreShown asked.now source.now) result
+        (W.written writer.old) (W.written writer.new) }
+{
+    match refusal {
+        Refusal::Fault(_, _) => answer_listed(alloc, asked, source, writer),
+        _ => refused(alloc, refusal),
+    }
+}
+
+/// Answers a source by its statements, whether it is refused or not.
+fn answer_listed<W: ByteSink>(alloc: Global, asked: &Asked, source: &[u8], writer: &mut W) -> JobEnd
+    requires may { needs_code asked.now ≡ true → IsSomehowRefused source.now }
+    requires sound { W.failed writer.old + 1 < 2 ^ 64 }
+    ensures leaves { LeavesWriter result (W.failed writer.old) (W.failed writer.new) }
+    ensures gives { W.told ≡ true → Gives (IsSourceAnswer asked.now source.now)
+        (AreShown asked.now source.now) result
+        (W.written writer.old) (W.written writer.new) }
+{
+    match read_statements(alloc, source) {
+        Ok(listed) => {
+            let seen = listed.statements.as_slice();
+            answer_statements(alloc, asked, source, seen, listed.faults.as_slice(), writer)
+        }
+        Err(refusal) => refused(alloc, refusal),
+    }
+}
+
+/// Answers the statements and the faults of a source.
+fn answer_statements<W: ByteSink>(
+    alloc: Global,
+    asked: &Asked,
+    source: &[u8],
+    seen: &[Seen<'_>],
+    faults: &[FaultAt],
+    writer: &mut W,
+) -> JobEnd
+    requires sound { W.failed writer.old + 1 < 2 ^ 64 }
+    ensures leaves { LeavesWriter result (W.failed writer.old) (W.failed writer.new) }
+    ensures gives { W.told ≡ true → Gives (IsListedAnswer asked.now source.now
+        seen.now faults.now)
+        (AreSome source.now seen.now faults.now asked.now) result
+        (W.written writer.old) (W.written writer.new) }
+{
+    match faults.first() {
+        None => answer_sound(alloc, asked, source, seen, faults, writer),
+        Some(fault) => answer_faulty(alloc, asked, source, seen, faults, *fault, writer),
+    }
+}
+
+/// Answers the statements of a source without faults, if it has the statement that is asked for.
+fn answer_sound<W: ByteSink>(
+    alloc: Global,
+    asked: &Asked,
+    source: &[u8],
+    seen: &[Seen<'_>],
+    faults: &[FaultAt],
+    writer: &mut W,
+) -> JobEnd
+    requires faultless { faults.now ≡ [] }
+    requires sound { W.failed writer.old + 1 < 2 ^ 64 }
+    ensures leaves { LeavesWriter result (W.failed writer.old) (W.failed writer.new) }
+    ensures gives { W.told ≡ true → Gives (IsListedAnswer asked.now source.now
+        seen.now faults.now)
+        (AreSome source.now seen.now faults.now asked.now) result
+        (W.written writer.old) (W.written writer.new) }
+{
+    if !has_statement(asked.only, seen.len() as u64) {
+        return none(alloc);
+    }
+    let written = write_listed(alloc, writer, source, seen, faults, asked);
+    end_of(written)
+}
+
+/// Answers the statements of a source that is refused with this fault.
+fn answer_faulty<W: ByteSink>(
+    alloc: Global,
+    asked: &Asked,
+    source: &[u8],
+    seen: &[Seen<'_>],
+    faults: &[FaultAt],
+    fault: FaultAt,
+    writer: &mut W,
+) -> JobEnd
+    requires faulty { (others : List FaultAt) × (faults.now ≡ fault ∷ others) }
+    requires sound { W.failed writer.old + 1 < 2 ^ 64 }
+    ensures leaves { LeavesWriter result (W.failed writer.old) (W.failed writer.new) }
+    ensures gives { W.told ≡ true → Gives (IsListedAnswer asked.now source.now
+        seen.now faults.now)
+        (AreSome source.now seen.now faults.now asked.now) result
+        (W.written writer.old) (W.written writer.new) }
+{
+    match write_listed(alloc, writer, source, seen, faults, asked) {
+        Ok(()) => refused(alloc, Refusal::Fault(fault.kind, fault.number)),
+        Err(failed) => end_of(Err(failed)),
+    }
+}
+
+/// Answers a program, by its code.
+fn answer_program<W: ByteSink>(
+    alloc: Global,
+    asked: &Asked,
+    source: &[u8],
+    program: &Program<'_>,
+    writer: &mut W,
+) -> JobEnd
+    requires needs { needs_code asked.now ≡ true }
+    requires compiles { Compiles source.now (trees_of program.now) }
+    requires sound { W.failed writer.old + 1 < 2 ^ 64 }
+    ensures leaves { LeavesWriter result (W.failed writer.old) (W.failed writer.new) }
+    ensures gives { W.told ≡ true → Gives (IsSourceAnswer asked.now source.now)
+        (AreShown asked.now source.now) result
+        (W.written writer.old) (W.written writer.new) }
+{
+    match compile(alloc, program) {
         Ok(code) => {
             // Its stages need that the operations are those of the program.
             code.law();
-            answer_code(alloc, asked, source, &program, &code, writer)
+            answer_code(alloc, asked, source, program, &code, writer)
         }
         Err(NoMemory) => JobEnd::NoMemory,
     }
@@ -98,7 +234,7 @@ fn answer_code<W: ByteSink>(
         (AreWhole code.now source.now asked.now)
         result (W.written writer.old) (W.written writer.new) }
 {
-    if !has_statement(asked.only, code.count()) {
+    if !has_statement(asked.only, code.count() as u64) {
         return none(alloc);
     }
     let written = write_stages(alloc, writer, source, program, code, asked);
@@ -120,11 +256,11 @@ fn end_of(written: Result<(), RunsError>) -> JobEnd
 }
 
 /// Returns whether there is the only statement that is asked for, among so many.
-fn has_statement(only: Option<u32>, count: u32) -> bool
+fn has_statement(only: Option<u32>, count: u64) -> bool
     ensures { result ≡ is_there only count }
 {
     match only {
-        Some(n) => n <= count,
+        Some(n) => u64::from(n) <= count,
         None => true,
     }
 }

@@ -7,8 +7,8 @@ ghost use Rattle.ick_stages_cli.specs.Program.{stages};
 
 use crate::dispatch::perform;
 use crate::words::read_job;
-use ick_explorer::{ByteSink, ByteSource};
-use ick_job::{Files, Status, answer_words, report};
+use ick_devices::{ByteSink, ByteSource, Files};
+use ick_job::{Status, answer_words, report};
 use std::alloc::Global;
 
 /// Does the job that the arguments ask for, and returns the exit status.

@@ -53,7 +53,7 @@ alike_state code lowered text p q h = λ i. record {
   stashed_scalars = λ name. reverse (map_of (scalar_names code) (numbers i) [] name);
   stashed_arrays = λ name. reverse (map_of (array_names code) (arrays i) [] name);
   ignored =
-      both (map_of (scalar_names code) (map (λ r. r == dump_of lowered) (h.home i)) false)
+      both (map_of (scalar_names code) (map (λ r. r == dump_of lowered) (h.store_target i)) false)
       (map_of (array_names code) (h.rest.hidden i) false);
   abstained = λ n. abstained n i;
   input = left text p.rest.taken q.rest.taken h.rest.taken i;
@@ -103,8 +103,8 @@ module _ (code : Code) (lowered : LoweredParts) (low : IsLowered code lowered) (
         ∙ length-take-le lowered.layout.base k.0.registers (omega (arith, k.1.steady.registers, low.temporaries))
         ∙ low.base)
 
-    home_long : length s.home.items ≡ lowered.layout.first
-    home_long = ∥∥₁_elim kept (hlevel props) (λ k. ap length k.2.home_kept ∙ k.1.steady.home)
+    home_long : length s.store_target.items ≡ lowered.layout.first
+    home_long = ∥∥₁_elim kept (hlevel props) (λ k. ap length k.2.home_kept ∙ k.1.steady.store_target)
 
     statuses_long : length s.statuses.items ≡ length (code_program code) + 2
     statuses_long = ∥∥₁_elim kept (hlevel props) (λ k. ap length k.2.statuses_kept ∙ k.1.steady.statuses.count)
@@ -150,11 +150,11 @@ same_home first base dump xs ys k d lt le m n one other same =
         absurd (apart (ap (λ z. z == dump) (sym b) ∙ sym (same a.0) ∙ ap (λ z. z == dump) a.1))
     at_zero (inr a) (inr b) = a.1 ∙ sym b.1
 
--- a home without the reason
-home_or : (lowered : LoweredParts) (home : List ℕ) (k : ℕ) → IsHome lowered home k →
-    (get_or home k 0 ≡ k) ⊎ ((k < lowered.layout.base) × (get_or home k 0 ≡ dump_of lowered))
-home_or lowered home k (inl a) = inl a
-home_or lowered home k (inr a) = inr (a.0, a.1)
+-- a store_target without the reason
+home_or : (lowered : LoweredParts) (store_target : List ℕ) (k : ℕ) → IsHome lowered store_target k →
+    (get_or store_target k 0 ≡ k) ⊎ ((k < lowered.layout.base) × (get_or store_target k 0 ≡ dump_of lowered))
+home_or lowered store_target k (inl a) = inl a
+home_or lowered store_target k (inr a) = inr (a.0, a.1)
 
 -- equal states have equal parts
 module _ (code : Code) (lowered : LoweredParts) (is : IsCompiled (code_program code) code) (low : IsLowered code lowered)
@@ -162,12 +162,12 @@ module _ (code : Code) (lowered : LoweredParts) (is : IsCompiled (code_program c
     (same : state_of code lowered (input_of text) (saved_view p) ≡ state_of code lowered (input_of text) (saved_view q))
   where
     scalar_ignored : (k : ℕ) (name : Name) → slice_get (scalar_names code) k ≡ Some name →
-        map_of (scalar_names code) (map (λ r. r == dump_of lowered) p.home.items) false name
-        ≡ map_of (scalar_names code) (map (λ r. r == dump_of lowered) q.home.items) false name
+        map_of (scalar_names code) (map (λ r. r == dump_of lowered) p.store_target.items) false name
+        ≡ map_of (scalar_names code) (map (λ r. r == dump_of lowered) q.store_target.items) false name
     scalar_ignored k name at =
         let kind = (scalar_slot code k name is at).kind in
-        let one = map_of (scalar_names code) (map (λ r. r == dump_of lowered) p.home.items) false name in
-        let two = map_of (scalar_names code) (map (λ r. r == dump_of lowered) q.home.items) false name in
+        let one = map_of (scalar_names code) (map (λ r. r == dump_of lowered) p.store_target.items) false name in
+        let two = map_of (scalar_names code) (map (λ r. r == dump_of lowered) q.store_target.items) false name in
         let a = map_of (array_names code) (map is_hidden p.rest.arrays.items) false name in
         let b = map_of (array_names code) (map is_hidden q.rest.arrays.items) false name in
         let whole : (if is_array name.kind then a else one) ≡ (if is_array name.kind then b else two) =
@@ -179,8 +179,8 @@ module _ (code : Code) (lowered : LoweredParts) (is : IsCompiled (code_program c
         ≡ map_of (array_names code) (map is_hidden q.rest.arrays.items) false name
     array_ignored k name at =
         let kind = array_kind code k name is at in
-        let one = map_of (scalar_names code) (map (λ r. r == dump_of lowered) p.home.items) false name in
-        let two = map_of (scalar_names code) (map (λ r. r == dump_of lowered) q.home.items) false name in
+        let one = map_of (scalar_names code) (map (λ r. r == dump_of lowered) p.store_target.items) false name in
+        let two = map_of (scalar_names code) (map (λ r. r == dump_of lowered) q.store_target.items) false name in
         let a = map_of (array_names code) (map is_hidden p.rest.arrays.items) false name in
         let b = map_of (array_names code) (map is_hidden q.rest.arrays.items) false name in
         let whole : (if is_array name.kind then a else one) ≡ (if is_array name.kind then b else two) =
@@ -188,7 +188,7 @@ module _ (code : Code) (lowered : LoweredParts) (is : IsCompiled (code_program c
         subst (λ z. (if z then a else one) ≡ (if z then b else two)) kind whole
 
     ignored_at : (k : ℕ) → k < lowered.layout.base →
-        (get_or p.home.items k 0 == dump_of lowered) ≡ (get_or q.home.items k 0 == dump_of lowered)
+        (get_or p.store_target.items k 0 == dump_of lowered) ≡ (get_or q.store_target.items k 0 == dump_of lowered)
     ignored_at k lt =
         let names = scalar_names code in
         let to : ℕ → Bool = λ r. r == dump_of lowered in
@@ -197,26 +197,26 @@ module _ (code : Code) (lowered : LoweredParts) (is : IsCompiled (code_program c
         let name = name_at names k (omega (arith, lt, low.base)) in
         let within : k < lowered.layout.first = omega (arith, lt, low.temporaries) in
         let few : length names ≤ lowered.layout.first = omega (arith, low.base, low.temporaries) in
-        sym (get_or-map to p.home.items k 0 false (omega (arith, within, m)))
-        ∙ sym (map_of-get names (map to p.home.items) false k name.0 false is.scalars_once
-        (omega (arith, few, m, length-map p.home.items to)) name.1)
+        sym (get_or-map to p.store_target.items k 0 false (omega (arith, within, m)))
+        ∙ sym (map_of-get names (map to p.store_target.items) false k name.0 false is.scalars_once
+        (omega (arith, few, m, length-map p.store_target.items to)) name.1)
         ∙ scalar_ignored k name.0 name.1
-        ∙ map_of-get names (map to q.home.items) false k name.0 false is.scalars_once
-        (omega (arith, few, n, length-map q.home.items to)) name.1
-        ∙ get_or-map to q.home.items k 0 false (omega (arith, within, n))
+        ∙ map_of-get names (map to q.store_target.items) false k name.0 false is.scalars_once
+        (omega (arith, few, n, length-map q.store_target.items to)) name.1
+        ∙ get_or-map to q.store_target.items k 0 false (omega (arith, within, n))
 
-    home_same : p.home.items ≡ q.home.items
+    home_same : p.store_target.items ≡ q.store_target.items
     home_same =
         let m = home_long code lowered low p mine in
         let n = home_long code lowered low q other in
         ∥∥₁_elim mine (hlevel props) (λ a. ∥∥₁_elim other (hlevel props) (λ b.
-        same_lists p.home.items q.home.items (m ∙ sym n) (λ k d lt.
+        same_lists p.store_target.items q.store_target.items (m ∙ sym n) (λ k d lt.
         let within : k < lowered.layout.first = omega (arith, lt, m) in
-        same_home lowered.layout.first lowered.layout.base (dump_of lowered) p.home.items q.home.items k d within
+        same_home lowered.layout.first lowered.layout.base (dump_of lowered) p.store_target.items q.store_target.items k d within
         (omega arith) m n
-        (home_or lowered p.home.items k
+        (home_or lowered p.store_target.items k
         (subst (λ z. IsHome lowered z k) (sym a.2.home_kept) (a.1.steady.homes k within)))
-        (home_or lowered q.home.items k
+        (home_or lowered q.store_target.items k
         (subst (λ z. IsHome lowered z k) (sym b.2.home_kept) (b.1.steady.homes k within)))
         (ignored_at k))))
 
@@ -248,7 +248,7 @@ module _ (code : Code) (lowered : LoweredParts) (is : IsCompiled (code_program c
       numbers = same_maps (scalar_names code) p.numbers.items q.numbers.items 0 is.scalars_once
           (numbers_long code lowered low p mine) (numbers_long code lowered low q other)
           (λ k name at. ap (λ (s : State). s.scalars name) same);
-      home = home_same;
+      store_target = home_same;
       abstained = abstained_same;
       returns = returns_same;
       rest = record {

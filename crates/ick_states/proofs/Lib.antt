@@ -1,3 +1,4 @@
+pub mod Hushing
 pub mod Keeping
 pub mod SameLists
 pub mod ByteSums

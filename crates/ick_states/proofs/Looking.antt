@@ -7,7 +7,7 @@ use Rattle.ick_states.specs.Hashed.{mix_saved}
 
 pub same_number : (long : ℕ) (p q : Saved) → AreAlike long p q → mix_saved long p ≡ mix_saved long q
 same_number long p q h = λ i.
-    let numbers = mix_numbers (mix_numbers (mix 0 (h.place i)) (h.numbers i)) (h.home i) in
+    let numbers = mix_numbers (mix_numbers (mix 0 (h.place i)) (h.numbers i)) (h.store_target i) in
     let returns = mix_numbers (mix_places numbers 0 (h.abstained i)) (h.returns i) in
     let arrays = mix_bits (mix_arrays returns (h.rest.arrays i)) (h.rest.hidden i) in
     let scalars = mix_all mix_numbers arrays (h.rest.scalar_stashes i) in

@@ -9,17 +9,16 @@ use Rattle.ick_engine.specs.Exits.{end_of}
 use Rattle.ick_runtime.specs.Inputs.{input_of}
 use Rattle.ick_runtime.specs.View.{state_of}
 use Rattle.ick_marks.specs.Saved.{saved_view}
-use Rattle.ick_machine.specs.RunIn.{program_of}
 use Rattle.ick_outcomes.specs.Accounts.{Configuration}
 use Rattle.ick_states.specs.Alike.{AreAlike}
 use Rattle.ick_states.specs.Hashed.{mix_bit, mix_saved}
-use Rattle.ick_states.specs.Seen.{CanGoOnFrom, ending_in, kept_state, key_of, seen_of}
+use Rattle.ick_states.specs.Seen.{CanGoOnFrom, ending_in, kept_state, key_of, seen_of, text_of}
 use Rattle.ick_states.specs.declared.runs.KeptRun.{KeptRun}
-use Rattle.ick_states.specs.declared.runs.Runs.{Runs}
+use Rattle.ick_states.specs.declared.runs.StateSpace.{StateSpace}
 use Rattle.ick_states.proofs.Equals.{alike_state, state_alike}
 use Rattle.ick_states.proofs.Looking.{same_number}
 
-module _ (runs : Runs) (one other : KeptRun) where
+module _ (runs : StateSpace) (one other : KeptRun) where
   abbrev long : ℕ
   long = length runs.input.now
 
@@ -29,7 +28,7 @@ module _ (runs : Runs) (one other : KeptRun) where
   seen_same ends alike =
       let code = runs.lowered.code.now in
       let states = alike_state code runs.lowered.parts runs.input.now one.saved other.saved alike in
-      λ i. record { program = program_of runs.lowered; state = record (states i) { end = ends i } }
+      λ i. record { program = text_of runs; state = record (states i) { end = ends i } }
 
   -- equal runs have equal ends
   pub ends_alike : (seen_of runs one).state ≡ (seen_of runs other).state →

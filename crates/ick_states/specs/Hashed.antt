@@ -3,7 +3,7 @@ use Rattle.std.specs.Prelude.{ℕ, suc, Bool, List, [], ◌∷◌, length, map, 
 use Rattle.std.specs.List.{fold}
 use Rattle.std.specs.Hash.FoldHasher.{initial, write, finish, folded_multiply, shl}
 use Rattle.ick_code.specs.meaning.State.{Array}
-use Rattle.ick_runtime.specs.{declared.memory.Rest.Rest, Status.is_abstained, View.array_of, View.is_hidden}
+use Rattle.ick_runtime.specs.{declared.memory.Parts.Parts, Status.is_abstained, View.array_of, View.is_hidden}
 use Rattle.ick_marks.specs.declared.saved.Saved.{Saved}
 use Rattle.ick_marks.specs.Saved.{arrays_on, numbers_on}
 
@@ -48,7 +48,7 @@ abbrev pub mix_bytes : ℕ → List ℕ → ℕ
 mix_bytes hash bytes = mix hash (finish (write initial bytes))
 
 -- over an input of so many bytes
-abbrev pub mix_rest : ℕ → ℕ → Rest → ℕ
+abbrev pub mix_rest : ℕ → ℕ → Parts → ℕ
 mix_rest long hash r =
     let arrays = mix_bits (mix_arrays hash (map array_of r.arrays.items)) (map is_hidden r.arrays.items) in
     let numbers = mix_all mix_numbers arrays (map numbers_on r.scalar_stashes.items) in
@@ -57,6 +57,6 @@ mix_rest long hash r =
 
 abbrev pub mix_saved : ℕ → Saved → ℕ
 mix_saved long s =
-    let numbers = mix_numbers (mix_numbers (mix 0 s.place) s.numbers.items) s.home.items in
+    let numbers = mix_numbers (mix_numbers (mix 0 s.place) s.numbers.items) s.store_target.items in
     let returns = mix_numbers (mix_places numbers 0 (map is_abstained s.statuses.items)) s.returns.items in
     mix_rest long returns s.rest

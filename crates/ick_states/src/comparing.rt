@@ -8,10 +8,10 @@ ghost use Rattle.ick_states.specs.Alike.{AreAlike, AreAlikeRests};
 use crate::parts::{abstains, are_same};
 use ick_backtrack::End;
 use ick_marks::Saved;
-use ick_runtime::{Array, Rest};
+use ick_runtime::{Array, Parts};
 
 /// Returns whether two states have the same bytes of input and output. The input has so many bytes.
-fn same_tape(one: &Rest, other: &Rest, long: usize) -> bool
+fn same_tape(one: &Parts, other: &Parts, long: usize) -> bool
     ensures taken { result ≡ true → min one.now.taken long ≡ min other.now.taken long }
     ensures output { result ≡ true → one.now.output.items ≡ other.now.output.items }
     ensures last { result ≡ true → one.now.last ≡ other.now.last }
@@ -70,7 +70,7 @@ fn same_abstained(one: &[u8], other: &[u8]) -> bool
 
 /// Returns whether the parts that few instructions change are the same. The input has so many
 /// bytes. Spare room of stashes doesn't matter.
-fn same_rest(one: &Rest, other: &Rest, long: usize) -> bool
+fn same_rest(one: &Parts, other: &Parts, long: usize) -> bool
     ensures same { result ≡ true → AreAlikeRests long one.now other.now }
     ensures found { AreAlikeRests long one.now other.now → result ≡ true }
 {
@@ -88,7 +88,7 @@ pub fn same(one: &Saved, other: &Saved, long: usize) -> bool
 {
     one.place == other.place
         && one.numbers == other.numbers
-        && one.home == other.home
+        && one.store_target == other.store_target
         && (one.statuses == other.statuses || same_abstained(&one.statuses, &other.statuses))
         && one.returns == other.returns
         && same_rest(&one.rest, &other.rest, long)

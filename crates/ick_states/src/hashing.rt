@@ -8,7 +8,7 @@ ghost use Rattle.ick_states.specs.Hashed.{mix, mix_places, mix_saved};
 
 use crate::parts::{abstains, mix_all, mix_numbers, mixed};
 use ick_marks::Saved;
-use ick_runtime::{Array, Rest};
+use ick_runtime::{Array, Parts};
 use std::hash::{FoldHasher, Hasher};
 
 /// Mixes bytes into a hash.
@@ -66,7 +66,7 @@ fn mix_abstained(hash: u64, statuses: &[u8]) -> u64
 }
 
 /// Mixes the parts that few instructions change into a hash. The input has so many bytes.
-fn mix_rest(hash: u64, rest: &Rest, long: usize) -> u64
+fn mix_rest(hash: u64, rest: &Parts, long: usize) -> u64
     ensures { result ≡ mixed_rest long hash rest.now }
 {
     let hash = mix_hidden(mix_all(hash, &rest.arrays), &rest.arrays);
@@ -83,7 +83,7 @@ pub fn hash(saved: &Saved, long: usize) -> u64
     ensures { result ≡ mix_saved long saved.now }
 {
     let hash = mixed(0, u64::from(saved.place));
-    let hash = mix_numbers(mix_numbers(hash, &saved.numbers), &saved.home);
+    let hash = mix_numbers(mix_numbers(hash, &saved.numbers), &saved.store_target);
     let hash = mix_numbers(mix_abstained(hash, &saved.statuses), &saved.returns);
     mix_rest(hash, &saved.rest, long)
 }

@@ -18,4 +18,4 @@ mod parts;
 mod renewing;
 mod runs;
 
-pub use runs::{KeptRun, Runs};
+pub use runs::{KeptRun, StateSpace};

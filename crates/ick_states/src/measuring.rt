@@ -4,7 +4,7 @@ ghost use Rattle.std.specs.Prelude.{◌≤◌, ◌*◌, ℕ, length};
 ghost use Rattle.ick_states.specs.Sizes.{all_bytes as size_of_all, rest_bytes, saved_bytes};
 
 use ick_marks::Saved;
-use ick_runtime::{Array, Rest, Stash};
+use ick_runtime::{Array, Parts, Stash};
 
 /// A value that takes bytes.
 pub trait Measured {
@@ -68,7 +68,7 @@ fn all_bytes<T: Measured>(items: &[T]) -> u64
 }
 
 /// Returns how many bytes the parts that few instructions change take.
-fn rest_size(rest: &Rest) -> u64
+fn rest_size(rest: &Parts) -> u64
     ensures { result ≤ rest_bytes rest.now }
 {
     all_bytes(&rest.arrays)
@@ -82,7 +82,7 @@ pub fn size(saved: &Saved) -> u64
     ensures { result ≤ saved_bytes saved.now }
 {
     list_bytes(&saved.numbers)
-        .saturating_add(list_bytes(&saved.home))
+        .saturating_add(list_bytes(&saved.store_target))
         .saturating_add(list_bytes(&saved.returns))
         .saturating_add(saved.statuses.len() as u64)
         .saturating_add(rest_size(&saved.rest))

@@ -37,10 +37,10 @@ pub fn renew(
     program.law();
     let base = program.layout().base as usize;
     put_list(&mut saved.numbers, &memory.registers[..base])?;
-    put_list(&mut saved.home, &memory.home)?;
+    put_list(&mut saved.store_target, &memory.store_target)?;
     put_list(&mut saved.statuses, &memory.statuses)?;
-    put_list(&mut saved.returns, &memory.returns[..memory.cursor.depth])?;
-    saved.place = memory.cursor.place;
+    put_list(&mut saved.returns, &memory.returns[..memory.point.depth])?;
+    saved.place = memory.point.place;
     swap(&mut saved.rest, &mut memory.rest);
     Ok(())
 }

@@ -31,14 +31,15 @@ pub struct KeptRun {
 /// A program over an input that is a text. Steps are made in a memory, which is lent for each call.
 /// A call puts a state into the memory, makes its steps there, and keeps the state after them.
 #[derive(Drop)]
-pub struct Runs<'c, 'a> {
+pub struct StateSpace<'c, 'a> {
     alloc: Global,
     lowered: Lowered<'c, 'a>,
     input: &'c [u8],
+    silent: bool,
 }
 
-impl<'c, 'a> Runs<'c, 'a> {
-    ghost use Rattle.std.specs.Prelude.{◌≡◌, ◌≤◌, Bool, true, Some, None, IfOk, OnOk};
+impl<'c, 'a> StateSpace<'c, 'a> {
+    ghost use Rattle.std.specs.Prelude.{◌≡◌, ◌≤◌, Bool, true, Some, None, Option, IfOk, OnOk};
     ghost use Rattle.ick_code.specs.meaning.Move.{ask, advance};
     ghost use Rattle.ick_backtrack.specs.Asked.{IsGoing};
     ghost use Rattle.ick_backtrack.specs.Steps.{IsPlain, RunsOn};
@@ -46,17 +47,29 @@ impl<'c, 'a> Runs<'c, 'a> {
     ghost use Rattle.ick_machine.specs.RunIn.{CanGoOn, program_of, state_in};
     ghost use Rattle.ick_states.specs.Seen.{CanGoOnFrom, CanServe};
     ghost use Rattle.ick_states.specs.Seen.{ending_in, kept_state, present_state, seen_of};
+    ghost use Rattle.ick_outcomes.specs.Programs.{ask as asks, advance as advances, hushed};
+    ghost use Rattle.ick_outcomes.specs.Programs.{RunsOn as Moves};
+    ghost use Rattle.ick_engine.specs.declared.exit.RawEnd.{RawEnd};
 
-    /// Returns a program over an input. `NoMemory` is the only refusal.
-    pub fn new(alloc: Global, code: &'c Code<'a>, input: &'c [u8]) -> Result<Runs<'c, 'a>, NoMemory>
+    /// Returns a program over an input. If it is `silent`, the output of runs is left out, and so
+    /// is the place on the tape of output: states that differ by nothing else are equal. `NoMemory`
+    /// is the only refusal.
+    pub fn new(
+        alloc: Global,
+        code: &'c Code<'a>,
+        input: &'c [u8],
+        silent: bool,
+    ) -> Result<StateSpace<'c, 'a>, NoMemory>
         ensures code { IfOk result (λ runs. runs.lowered.code.now ≡ code.now) }
         ensures input { IfOk result (λ runs. runs.input.now ≡ input.now) }
+        ensures silent { IfOk result (λ runs. runs.silent ≡ silent) }
     {
         let lowered = lower(alloc, code)?;
-        Ok(Runs {
+        Ok(StateSpace {
             alloc,
             lowered,
             input,
+            silent,
         })
     }
 
@@ -165,12 +178,13 @@ impl<'c, 'a> Runs<'c, 'a> {
     ) -> Result<u32, NoMemory>
         requires steady { CanServe self.now.lowered memory.old }
         requires kept { CanGoOnFrom self.now.lowered state.old.saved }
-        requires going { let old = seen_of self.now state.old in IsGoing
-            (ask old.program old.state) }
+        requires going { IsGoing
+            (ask (program_of self.now.lowered) (seen_of self.now state.old).state) }
         ensures steady { CanServe self.now.lowered memory.new }
         ensures kept { OnOk result (CanGoOnFrom self.now.lowered state.new.saved) }
-        ensures runs { let old = seen_of self.now state.old in IfOk result (λ made. RunsOn IsPlain
-            old.program (advance old.program old.state done) made
+        ensures runs { let program = program_of self.now.lowered in
+            IfOk result (λ made. RunsOn IsPlain program
+            (advance program (seen_of self.now state.old).state done) made
             (seen_of self.now state.new).state) }
         ensures within { IfOk result (λ made. made ≤ limit) }
     {
@@ -183,18 +197,56 @@ impl<'c, 'a> Runs<'c, 'a> {
         state.end = end;
         Ok(made)
     }
+
+    /// Leaves out the output of a kept state and its place on the tape of output, if the program is
+    /// silent.
+    fn hush(&self, saved: &mut Saved)
+        requires { CanGoOnFrom self.now.lowered saved.old }
+        ensures kept { CanGoOnFrom self.now.lowered saved.new }
+        ensures states { (input : Input) (end : Option RawEnd) →
+            kept_state self.now.lowered input saved.new end
+            ≡ hushed self.now.silent (kept_state self.now.lowered input saved.old end) }
+    {
+        if self.silent {
+            saved.rest.output.clear();
+            saved.rest.last = 0;
+        }
+    }
+
+    /// Makes the steps of `make_steps`, and then leaves out the output if the program is silent.
+    fn move_on(
+        &self,
+        memory: &mut Memory,
+        state: &mut KeptRun,
+        done: bool,
+        limit: u32,
+    ) -> Result<u32, NoMemory>
+        requires steady { CanServe self.now.lowered memory.old }
+        requires kept { CanGoOnFrom self.now.lowered state.old.saved }
+        requires going { let old = seen_of self.now state.old in IsGoing
+            (asks old.program old.state) }
+        ensures steady { CanServe self.now.lowered memory.new }
+        ensures kept { OnOk result (CanGoOnFrom self.now.lowered state.new.saved) }
+        ensures runs { let old = seen_of self.now state.old in IfOk result (λ made. Moves
+            old.program (advances old.program old.state done) made
+            (seen_of self.now state.new).state) }
+        ensures within { IfOk result (λ made. made ≤ limit) }
+    {
+        let made = self.make_steps(memory, state, done, limit)?;
+        self.hush(&mut state.saved);
+        Ok(made)
+    }
 }
 
-impl<'c, 'a> States<'c> for Runs<'c, 'a> {
-    ghost use Rattle.ick_machine.specs.RunIn.{program_of};
-    ghost use Rattle.ick_states.specs.Seen.{CanGoOnFrom, CanServe, key_of, seen_of};
+impl<'c, 'a> States<'c> for StateSpace<'c, 'a> {
+    ghost use Rattle.ick_states.specs.Seen.{CanGoOnFrom, CanServe, key_of, seen_of, text_of};
     ghost use Rattle.ick_states.specs.Sizes.{saved_bytes};
 
     type State = Box<KeptRun>;
 
     type Tools = Memory;
 
-    ghost text = { λ runs. program_of runs.lowered };
+    ghost text = { text_of };
 
     ghost seen = { λ runs state. seen_of runs state.value };
 
@@ -205,6 +257,10 @@ impl<'c, 'a> States<'c> for Runs<'c, 'a> {
     ghost key = { λ runs state. key_of runs state.value };
 
     ghost size = { λ _ state. saved_bytes state.value.saved };
+
+    fn is_silent(&self) -> bool {
+        self.silent
+    }
 
     fn output<'s>(&self, state: &'s Box<KeptRun>) -> &'s [u8] {
         &state.saved.rest.output
@@ -238,7 +294,7 @@ impl<'c, 'a> States<'c> for Runs<'c, 'a> {
         limit: u32,
     ) -> Result<(Box<KeptRun>, u32), NoMemory> {
         let mut state = state;
-        let made = self.make_steps(tools, &mut state, done, limit)?;
+        let made = self.move_on(tools, &mut state, done, limit)?;
         Ok((state, made))
     }
 
@@ -250,7 +306,7 @@ impl<'c, 'a> States<'c> for Runs<'c, 'a> {
         limit: u32,
     ) -> Result<(Box<KeptRun>, u32), NoMemory> {
         let mut copy = self.copy(state)?;
-        let made = self.make_steps(tools, &mut copy, done, limit)?;
+        let made = self.move_on(tools, &mut copy, done, limit)?;
         Ok((copy, made))
     }
 
@@ -286,10 +342,10 @@ impl<'c, 'a> States<'c> for Runs<'c, 'a> {
     }
 }
 
-impl<'c, 'a> Runs<'c, 'a> {
+impl<'c, 'a> StateSpace<'c, 'a> {
     /// Returns a memory in which steps can be made. `NoMemory` is the only refusal.
     pub fn tools(&self) -> Result<Memory, NoMemory>
-        ensures { IfOk result (λ memory. ⟦<Runs<'c, 'a> as States<'c>>⟧.serves
+        ensures { IfOk result (λ memory. ⟦<StateSpace<'c, 'a> as States<'c>>⟧.serves
             self.now memory) }
     {
         fresh_memory(self.alloc, &self.lowered)
@@ -298,10 +354,13 @@ impl<'c, 'a> Runs<'c, 'a> {
     /// Returns the state in which runs begin. `NoMemory` is the only refusal.
     pub fn first(&self) -> Result<Box<KeptRun>, NoMemory>
         ensures state { IfOk result (λ state.
-            ⟦<Runs<'c, 'a> as States<'c>>⟧.suits self.now state) }
+            ⟦<StateSpace<'c, 'a> as States<'c>>⟧.suits self.now state) }
         ensures first { IfOk result (λ state.
-            ⟦<Runs<'c, 'a> as States<'c>>⟧.seen self.now state ≡ record {
-              program = code_program self.now.lowered.code.now;
+            ⟦<StateSpace<'c, 'a> as States<'c>>⟧.seen self.now state ≡ record {
+              program = record {
+                statements = code_program self.now.lowered.code.now;
+                silent = self.now.silent;
+              };
               state = first_state (code_program self.now.lowered.code.now) self.now.input.now;
             }) }
     {

@@ -8,7 +8,7 @@ use Rattle.ick_code.specs.meaning.State.{State}
 use Rattle.ick_explorer.specs.declared.errors.RunsError.{RunsError}
 use Rattle.ick_explorer.specs.declared.errors.RunsError.TheVariants.{NoMemory, WorkFull}
 use Rattle.ick_step.specs.Arrival.{Breaks, IsBreak}
-use Rattle.ick_step.specs.Session.{Seen, IsFull, later, present}
+use Rattle.ick_step.specs.Seen.{Seen, IsFull, later, present}
 use Rattle.ick_step.proofs.MarkLaws.{later-later}
 
 -- the kind holds of none of the states after the first steps

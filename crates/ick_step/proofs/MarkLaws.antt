@@ -15,7 +15,7 @@ use Rattle.ick_backtrack.specs.Machine.{Program, Machine}
 use Rattle.ick_backtrack.specs.Steps.{HasRun}
 use Rattle.ick_explorer.proofs.Walking.{same_front}
 use Rattle.ick_step.specs.History.{done_by, after, Answers, IsHistory}
-use Rattle.ick_step.specs.Session.{Seen, later, with_answer, start_from, start_of, seen_at, marked, IsKept}
+use Rattle.ick_step.specs.Seen.{Seen, later, with_answer, start_from, start_of, seen_at, marked, IsKept}
 use Rattle.ick_step.proofs.HistoryLaws.{after-append, history-append, history-take, after-plain, history-plain}
 use Rattle.ick_step.proofs.HistoryLaws.{history-prop, answer_there}
 

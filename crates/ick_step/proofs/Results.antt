@@ -8,7 +8,7 @@ use Rattle.ick_explorer.specs.declared.errors.RunsError.{RunsError}
 use Rattle.ick_explorer.specs.declared.errors.RunsError.TheVariants.{NoMemory, WorkFull}
 use Rattle.ick_backtrack.specs.Machine.{Machine}
 use Rattle.ick_backtrack.specs.Steps.{HasRun}
-use Rattle.ick_step.specs.Session.{IsKept, Seen, seen_at, later}
+use Rattle.ick_step.specs.Seen.{IsKept, Seen, seen_at, later}
 use Rattle.ick_step.proofs.MarkLaws.{kept_cut}
 
 pub on_ok : {T E : Type 0} (r : Result T E) {P Q : Type 0} → OnOk r P → (P → Q) → OnOk r Q

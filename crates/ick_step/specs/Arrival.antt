@@ -4,7 +4,7 @@ use Rattle.ick_code.specs.meaning.State.{State}
 use Rattle.ick_backtrack.specs.Steps.{IsPlain}
 use Rattle.ick_explorer.specs.declared.errors.RunsError.{RunsError}
 use Rattle.ick_explorer.specs.declared.errors.RunsError.TheVariants.{NoMemory, WorkFull}
-use Rattle.ick_step.specs.Session.{Seen, present, later, IsFull}
+use Rattle.ick_step.specs.Seen.{Seen, present, later, IsFull}
 use Rattle.ick_step.specs.declared.arrival.Target.{Target}
 use Rattle.ick_step.specs.declared.arrival.Target.TheVariants.{Statement, Depth}
 

@@ -1,4 +1,4 @@
 pub mod History
-pub mod Session
-pub mod Sessions
+pub mod Seen
+pub mod Histories
 pub mod Arrival

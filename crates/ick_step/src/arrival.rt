@@ -4,7 +4,7 @@ ghost use Rattle.std.specs.Prelude.{◌≡◌, ◌==◌, ◌<◌, length, not, n
 ghost use Rattle.std.specs.Prelude.{OnErr};
 ghost use Rattle.ick_step.specs.Arrival.{has_come};
 
-use crate::session::Session;
+use crate::history::History;
 use ick_backtrack::{Asks, Backtrack};
 use ick_explorer::RunsError;
 use ick_machine::Inspect;
@@ -28,23 +28,23 @@ fn is_at<M: Inspect>(machine: &M, target: Target) -> bool
     }
 }
 
-impl<M: Backtrack> Session<M> {
-    ghost use Rattle.ick_step.specs.Session.{later, present, IsFull};
-    ghost use Rattle.ick_step.specs.Sessions.{session};
+impl<M: Backtrack> History<M> {
+    ghost use Rattle.ick_step.specs.Seen.{later, present, IsFull};
+    ghost use Rattle.ick_step.specs.Histories.{history};
     ghost use Rattle.ick_step.specs.Arrival.{Breaks, IsBreak, StopsFirst};
 
     /// Makes steps until the target, as `until` does.
     fn step_to<'c>(&mut self, target: Target, limit: u32) -> Result<u32, RunsError>
     where
         M: Asks<'c> + Inspect,
-        ensures ok { IfOk result (λ k. session self.new ≡ later k (session self.old)) }
+        ensures ok { IfOk result (λ k. history self.new ≡ later k (history self.old)) }
         ensures stops { IfOk result (λ k.
-            StopsFirst (has_come target) (session self.old) limit k) }
-        ensures full { IsFull (session self.old) 1 → 0 < limit →
+            StopsFirst (has_come target) (history self.old) limit k) }
+        ensures full { IsFull (history self.old) 1 → 0 < limit →
             result ≡ Err RunsError.WorkFull }
-        ensures errors { IfErr result (IsBreak (session self.new)) }
-        ensures err { OnErr result (Breaks (has_come target) (session self.old) limit
-            (session self.new)) }
+        ensures errors { IfErr result (IsBreak (history self.new)) }
+        ensures err { OnErr result (Breaks (has_come target) (history self.old) limit
+            (history self.new)) }
     {
         let mut made = 0;
         'on: while made < limit {
@@ -73,14 +73,14 @@ impl<M: Backtrack> Session<M> {
     pub fn until<'c>(&mut self, statement: u32, limit: u32) -> Result<u32, RunsError>
     where
         M: Asks<'c> + Inspect,
-        ensures ok { IfOk result (λ k. session self.new ≡ later k (session self.old)) }
+        ensures ok { IfOk result (λ k. history self.new ≡ later k (history self.old)) }
         ensures stops { IfOk result (λ k.
-            StopsFirst (λ t. t.place == statement) (session self.old) limit k) }
-        ensures full { IsFull (session self.old) 1 → 0 < limit →
+            StopsFirst (λ t. t.place == statement) (history self.old) limit k) }
+        ensures full { IsFull (history self.old) 1 → 0 < limit →
             result ≡ Err RunsError.WorkFull }
-        ensures errors { IfErr result (IsBreak (session self.new)) }
-        ensures err { OnErr result (Breaks (λ t. t.place == statement) (session self.old) limit
-            (session self.new)) }
+        ensures errors { IfErr result (IsBreak (history self.new)) }
+        ensures err { OnErr result (Breaks (λ t. t.place == statement) (history self.old) limit
+            (history self.new)) }
     {
         self.step_to(Target::Statement(statement), limit)
     }
@@ -92,15 +92,15 @@ impl<M: Backtrack> Session<M> {
     pub fn next<'c>(&mut self, limit: u32) -> Result<u32, RunsError>
     where
         M: Asks<'c> + Inspect,
-        ensures ok { IfOk result (λ k. session self.new ≡ later k (session self.old)) }
-        ensures stops { let s = session self.old in IfOk result (λ k. StopsFirst
+        ensures ok { IfOk result (λ k. history self.new ≡ later k (history self.old)) }
+        ensures stops { let s = history self.old in IfOk result (λ k. StopsFirst
             (λ t. not (nat_lt (length (present s).returns) (length t.returns))) s limit k) }
-        ensures full { IsFull (session self.old) 1 → 0 < limit →
+        ensures full { IsFull (history self.old) 1 → 0 < limit →
             result ≡ Err RunsError.WorkFull }
-        ensures errors { IfErr result (IsBreak (session self.new)) }
-        ensures err { let s = session self.old in OnErr result (Breaks
+        ensures errors { IfErr result (IsBreak (history self.new)) }
+        ensures err { let s = history self.old in OnErr result (Breaks
             (λ t. not (nat_lt (length (present s).returns) (length t.returns))) s limit
-            (session self.new)) }
+            (history self.new)) }
     {
         let depth = self.machine().return_addresses().len();
         self.step_to(Target::Depth(depth), limit)

@@ -2,7 +2,7 @@
 
 ghost use Rattle.std.specs.Prelude.{◌≡◌, ◌+◌, ◌<◌, ◌≤◌, ◌^◌, ℕ, take, length, OnOk, OnErr};
 ghost use Rattle.ick_step.specs.History.{IsHistory};
-ghost use Rattle.ick_step.specs.Session.{IsKept, start_of};
+ghost use Rattle.ick_step.specs.Seen.{IsKept, start_of};
 
 use crate::marks::{BETWEEN_MARKS, make_step};
 use ick_backtrack::Backtrack;

@@ -4,7 +4,7 @@ ghost use Rattle.std.specs.Prelude.{◌≡◌, ◌-◌, ◌<◌, ◌^◌, ◌∷
 ghost use Rattle.std.specs.Prelude.{Some, IfOk, OnOk, OnErr};
 ghost use Rattle.ick_code.specs.meaning.Move.{ask};
 ghost use Rattle.ick_step.specs.History.{choices_in, asks_choice};
-ghost use Rattle.ick_step.specs.Session.{IsKept, seen_at, with_answer};
+ghost use Rattle.ick_step.specs.Seen.{IsKept, seen_at, with_answer};
 
 use crate::marks::make_step;
 use ick_backtrack::{Ask, Asks};

@@ -2,7 +2,7 @@
 
 ghost use Rattle.std.specs.Prelude.{◌≡◌, ℕ, ◌+◌, ◌*◌, ◌<◌, ◌≤◌, ◌^◌, length, IfOk, OnErr};
 ghost use Rattle.ick_backtrack.specs.Steps.{IsPlain, Rests};
-ghost use Rattle.ick_step.specs.Session.{IsKept, seen_at, later};
+ghost use Rattle.ick_step.specs.Seen.{IsKept, seen_at, later};
 
 use crate::marks::{BETWEEN_MARKS, mark_if_due};
 use ick_backtrack::Asks;

@@ -14,9 +14,9 @@ mod arrival;
 mod backward;
 mod choosing;
 mod forward;
+mod history;
 mod marks;
-mod session;
 
+pub use history::History;
 pub use ick_explorer::RunsError;
 pub use ick_machine::Inspect;
-pub use session::Session;

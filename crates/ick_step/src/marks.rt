@@ -4,7 +4,7 @@ ghost use Rattle.std.specs.Prelude.{◌≡◌, ◌+◌, ◌-◌, ◌*◌, ◌<�
 ghost use Rattle.std.specs.Prelude.{Bool, List, Option, length, OnOk, OnErr};
 ghost use Rattle.ick_code.specs.meaning.Move.{ask};
 ghost use Rattle.ick_step.specs.History.{done_by, Answers};
-ghost use Rattle.ick_step.specs.Session.{IsKept, seen_at, with_answer};
+ghost use Rattle.ick_step.specs.Seen.{IsKept, seen_at, with_answer};
 
 use ick_backtrack::Backtrack;
 use ick_bits::NoMemory;

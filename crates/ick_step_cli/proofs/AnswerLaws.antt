@@ -11,17 +11,17 @@ use Rattle.ick_code.specs.declared.code.Code.{Code}
 use Rattle.ick_backtrack.specs.Asked.{finish_of}
 use Rattle.ick_backtrack.specs.Machine.{Program}
 use Rattle.ick_inspect.specs.Positions.{AreAt, OneStart, position_in, texts_of}
-use Rattle.ick_inspect.specs.declared.positions.Position.{Position}
+use Rattle.ick_inspect.specs.declared.positions.LineColumn.{LineColumn}
 use Rattle.ick_job.specs.Answer.{Answer, shown}
 use Rattle.ick_explorer.specs.declared.errors.RunsError.{RunsError}
 use Rattle.ick_job.specs.JobEnd.{EndsBy, refused_job_end}
 use Rattle.ick_job.specs.declared.job_end.JobEnd.{JobEnd}
 use Rattle.ick_job.specs.declared.job_end.JobEnd.TheVariants.{Answered, NoMemory, InputTooLong, FileNotRead, ReadFailed}
 use Rattle.ick_job.specs.declared.job_end.JobEnd.TheVariants.{WriteFailed}
-use Rattle.ick_step.specs.Session.{Seen}
-use Rattle.ick_session.specs.Stepper.{Settings}
+use Rattle.ick_step.specs.Seen.{Seen}
+use Rattle.ick_session.specs.Session.{Settings}
 use Rattle.ick_step_cli.specs.Serve.{Gives, IsCutShort, written}
-use Rattle.ick_step_cli.specs.Talk.{IsCut, IsOver, Writes, at_end, at_quit, output_text}
+use Rattle.ick_step_cli.specs.Talk.{IsCut, IsOver, Lines, Writes, at_end, at_quit, output_text}
 use Rattle.ick_step_cli.specs.Plan.{Planned}
 use Rattle.ick_step_cli.specs.Tool.{ArePositions, IsBegun, IsRunAnswer, IsSourceAnswer, IsSourceBegun, Placed, compiled}
 use Rattle.ick_step_cli.specs.Tool.{lines_too_many, run_of, talked, talking, traced, traced_whole}
@@ -31,21 +31,24 @@ use Rattle.ick_step_cli.specs.declared.trace.Stopped.{Stopped}
 use Rattle.ick_step_cli.proofs.Giving.{gives_so}
 
 -- a session that is over has an output
-over_output : (f : Settings) (positions : List Position) (s : Seen) (lines : List (List ℕ)) (before after : List ℕ) →
+over_output : (f : Settings) (positions : List LineColumn) (s : Seen) (lines : Lines) (before after : List ℕ) →
     IsOver f positions s lines before after →
     (output : List ℕ) × IsOver f positions s lines [] output × (after ≡ before ++ output)
 over_output f positions s lines before after (at_end g t text talks e) =
-    (output_text f positions s text, at_end g t text talks refl, e)
-over_output f positions s lines before after (at_quit done left line g h t u text last lines_are talks answers e) =
-    (output_text f positions s text, at_quit done left line g h t u text last lines_are talks answers refl, e)
+    (output_text lines.terminal f positions s text, at_end g t text talks refl, e)
+over_output f positions s lines before after (at_quit done left line g h t u text last lines_are talks answers e) = (
+  output_text lines.terminal f positions s text,
+  at_quit done left line g h t u text last lines_are talks answers refl,
+  e,
+)
 
-cut_begun : (f : Settings) (positions : List Position) (lines : List (List ℕ)) (before after : List ℕ) →
+cut_begun : (f : Settings) (positions : List LineColumn) (lines : Lines) (before after : List ℕ) →
     IsCut f positions (begin f) lines before after → IsCutShort (IsBegun f positions lines false) before after
 cut_begun f positions lines before after h =
-    written (output_text f positions (begin f) h.text) h.count (talking h.done h.left h.set h.last h.text h.lines_are h.talks)
-    h.written
+    written (output_text lines.terminal f positions (begin f) h.text) h.count
+    (talking h.done h.left h.set h.last h.text h.lines_are h.talks) h.written
 
-session_gives : (f : Settings) (positions : List Position) (lines : List (List ℕ)) (job_end : JobEnd)
+session_gives : (f : Settings) (positions : List LineColumn) (lines : Lines) (job_end : JobEnd)
     (before after : List ℕ) → Writes f positions (begin f) lines job_end before after →
     Gives (IsRunAnswer f positions lines false) (IsBegun f positions lines false) job_end before after
 session_gives f positions lines (Answered status message) before after h =
@@ -54,7 +57,7 @@ session_gives f positions lines (Answered status message) before after h =
 session_gives f positions lines InputTooLong before after h =
     let cut = h.1 in (
       _,
-      lines_too_many (output_text f positions (begin f) cut.text) cut.count h.0
+      lines_too_many (output_text lines.terminal f positions (begin f) cut.text) cut.count h.0
           (talking cut.done cut.left cut.set cut.last cut.text cut.lines_are cut.talks),
       ((refl, refl), cut.written),
     )
@@ -64,7 +67,7 @@ session_gives f positions lines ReadFailed before after h = cut_begun f position
 session_gives f positions lines WriteFailed before after h = cut_begun f positions lines before after h
 
 -- .. over what the session keeps
-pub talk_gives : (f g : Settings) (positions : List Position) (s : Seen) (lines : List (List ℕ)) (job_end : JobEnd)
+pub talk_gives : (f g : Settings) (positions : List LineColumn) (s : Seen) (lines : Lines) (job_end : JobEnd)
     (before after : List ℕ) → g ≡ f → s ≡ begin f → Writes g positions s lines job_end before after →
     Gives (IsRunAnswer f positions lines false) (IsBegun f positions lines false) job_end before after
 talk_gives f g positions s lines job_end before after same starts h =
@@ -73,8 +76,8 @@ talk_gives f g positions s lines job_end before after same starts h =
     (subst (λ (x : Seen). Writes g positions x lines job_end before after) starts h))
 
 -- a trace that was written has the answer of its run
-pub trace_gives : (f : Settings) (code : Code) (positions : List Position) (stopped : Stopped) (job_end : JobEnd)
-    (before after : List ℕ) (lines : List (List ℕ)) → IsCompiled f.program code →
+pub trace_gives : (f : Settings) (code : Code) (positions : List LineColumn) (stopped : Stopped) (job_end : JobEnd)
+    (before after : List ℕ) (lines : Lines) → IsCompiled f.program code →
     IsTraced f code positions stopped before after →
     EndsBy (stop_status (option_map finish_of stopped.end)) (stop_text (option_map finish_of stopped.end) stopped.steps)
     job_end → Gives (IsRunAnswer f positions lines true) (IsBegun f positions lines true) job_end before after
@@ -98,7 +101,7 @@ trace_gives f code positions stopped ReadFailed before after lines whole h ends 
 trace_gives f code positions stopped WriteFailed before after lines whole h ends = absurd ends
 
 -- .. at the positions of a source
-pub placed_gives : (f : Settings) (source : List ℕ) (positions : List Position) (lines : List (List ℕ)) (trace is : Bool)
+pub placed_gives : (f : Settings) (source : List ℕ) (positions : List LineColumn) (lines : Lines) (trace is : Bool)
     (job_end : JobEnd) (before after : List ℕ) → trace ≡ is → ArePositions source f.program positions →
     Gives (IsRunAnswer f positions lines is) (IsBegun f positions lines is) job_end before after →
     Gives (λ answer. Placed source f.program (λ places. IsRunAnswer f places lines trace answer))
@@ -118,14 +121,14 @@ refused_gives A X e job_end before after is (inr write) h =
     subst (λ (x : JobEnd). Gives A X x before after) (sym (is ∙ ap refused_job_end write)) h
 
 -- the positions that were found are those of the source
-pub are_positions : (source : List ℕ) (program : Program) (positions : List Position) → OneStart → Cuts source program →
+pub are_positions : (source : List ℕ) (program : Program) (positions : List LineColumn) → OneStart → Cuts source program →
     ((starts : List ℕ) → AreAt source 0 (texts_of program) starts → positions ≡ map (position_in source) starts) →
     ArePositions source program positions
 are_positions source program positions one cut found =
     let starts = one source program cut in (starts.0, starts.1, found starts.0 starts.1)
 
 -- the answer of a program that a source compiles to
-pub compiled_gives : (p : Planned) (input : Option (List ℕ)) (lines : List (List ℕ)) (source : List ℕ)
+pub compiled_gives : (p : Planned) (input : Option (List ℕ)) (lines : Lines) (source : List ℕ)
     (trees program : Program) (bytes items : List ℕ) (job_end : JobEnd) (before after : List ℕ) →
     Compiles source trees → program ≡ trees → bytes ≡ items → Some items ≡ input → length items ≤ longest_input →
     (Cuts source program →

@@ -24,7 +24,7 @@ use Rattle.ick_runs.specs.Chosen.{Chosen}
 use Rattle.ick_step_cli.specs.Job.{Wanted}
 use Rattle.ick_step_cli.specs.Plan.{AreGivenBy, Planned, with_choices}
 use Rattle.ick_step_cli.specs.Serve.{EndsUnread, Gives, IsCutShort, unwritten, written}
-use Rattle.ick_step_cli.specs.Talk.{lines_of}
+use Rattle.ick_step_cli.specs.Talk.{Lines, typed}
 use Rattle.ick_step_cli.specs.Tool.{IsReadAnswer, IsReadBegun, IsSourceAnswer, IsSourceBegun, IsStepAnswer, IsStepBegun}
 use Rattle.ick_step_cli.specs.Tool.{input_not_read, input_of, planned}
 use Rattle.ick_step_cli.specs.Tool.{input_too_long, lines_by, not_read, read, read_begun, refused, too_long, compiled}
@@ -70,7 +70,7 @@ gives_line A X IsLine ReadFailed before h is = absurd h
 gives_line A X IsLine WriteFailed before h is = absurd h
 
 -- a source that is refused
-pub gives_refused : (X : List ℕ → Type 0) (p : Planned) (input : Option (List ℕ)) (lines : List (List ℕ))
+pub gives_refused : (X : List ℕ → Type 0) (p : Planned) (input : Option (List ℕ)) (lines : Lines)
     (source : List ℕ) (why : Refusal) (job_end : JobEnd) (before : List ℕ) → Refuses source why →
     EndsRefused why job_end → Gives (IsSourceAnswer p input lines source) X job_end before before
 gives_refused X p input lines source (refusal.Fault kind n) job_end before is ends =
@@ -119,7 +119,7 @@ input_long name n named bytes is front long =
 
 -- .. and one that wasn't
 pub gives_unread : (X : List ℕ → Type 0) (p : Planned) (name : Option Text) (named : List ℕ → List ℕ)
-    (failed failed' : ℕ) (lines : List (List ℕ)) (source : List ℕ) (program : Program) (job_end : JobEnd)
+    (failed failed' : ℕ) (lines : Lines) (source : List ℕ) (program : Program) (job_end : JobEnd)
     (before : List ℕ) → Compiles source program → EndsUnread name named job_end →
     failed' ≡ failed + failed_files job_end →
     Gives (IsSourceAnswer p (input_of name named failed failed') lines source) X job_end before before
@@ -146,7 +146,7 @@ whole_front : (most : ℕ) (source : List ℕ) → longest < most → length (ta
     take most source ≡ source
 whole_front most source long fits = let size = length-take most source in take_all most source (omega arith)
 
-pub answer_of_front : (p : Planned) (input : Option (List ℕ)) (lines : List (List ℕ)) (source front : List ℕ)
+pub answer_of_front : (p : Planned) (input : Option (List ℕ)) (lines : Lines) (source front : List ℕ)
     (answer : Answer) → front ≡ take (longest + 1) source → IsSourceAnswer p input lines front answer →
     IsSourceAnswer p input lines source answer
 answer_of_front p input lines source front answer is (too_long h) =
@@ -165,7 +165,7 @@ answer_of_front p input lines source front answer is (compiled program bytes pos
     (all_of_front longest front source is (let within = h.fits in within))
     (compiled program bytes positions given h some fits placed run)
 
-pub begun_of_front : (p : Planned) (input : Option (List ℕ)) (lines : List (List ℕ)) (source front text : List ℕ) →
+pub begun_of_front : (p : Planned) (input : Option (List ℕ)) (lines : Lines) (source front text : List ℕ) →
     front ≡ take (longest + 1) source → IsSourceBegun p input lines front text →
     IsSourceBegun p input lines source text
 begun_of_front p input lines source front text is h =
@@ -173,7 +173,7 @@ begun_of_front p input lines source front text is h =
     (all_of_front longest front source is (let compiles = h.compiles in compiles.fits)) h
 
 -- the answer to a job that names a file, and to one that names none
-gives_of_front : (p : Planned) (input : Option (List ℕ)) (lines : List (List ℕ)) (source front : List ℕ)
+gives_of_front : (p : Planned) (input : Option (List ℕ)) (lines : Lines) (source front : List ℕ)
     (job_end : JobEnd) (before after : List ℕ) → front ≡ take (longest + 1) source →
     Gives (IsSourceAnswer p input lines front) (IsSourceBegun p input lines front) job_end before after →
     Gives (IsReadAnswer p input lines (Some source)) (IsReadBegun p input lines (Some source)) job_end before after
@@ -182,58 +182,62 @@ gives_of_front p input lines source front job_end before after is h =
     (λ answer answers. read source answer (answer_of_front p input lines source front answer is answers))
     (λ text begun. read_begun source text (begun_of_front p input lines source front text is begun)) h
 
-pub with_file : (p : Planned) (input : Option (List ℕ)) (file : Option Text) (name : Text) (named : List ℕ → List ℕ)
-    (failed failed' : ℕ) (left front : List ℕ) (job_end : JobEnd) (before after : List ℕ) → file ≡ Some name →
+pub with_file : (terminal : Bool) (p : Planned) (input : Option (List ℕ)) (file : Option Text) (name : Text)
+    (named : List ℕ → List ℕ) (failed failed' : ℕ) (left front : List ℕ) (job_end : JobEnd) (before after : List ℕ) → file ≡ Some name →
     failed' ≡ failed → front ≡ take (longest + 1) (named name) →
-    Gives (IsSourceAnswer p input (lines_of left) front) (IsSourceBegun p input (lines_of left) front) job_end
-    before after →
-    Gives (IsReadAnswer p input (lines_by file left) (source_of file named failed failed' left))
-    (IsReadBegun p input (lines_by file left) (source_of file named failed failed' left)) job_end before after
-with_file p input file name named failed failed' left front job_end before after is same fronts h =
-    subst (λ (f : Option Text). Gives (IsReadAnswer p input (lines_by f left) (source_of f named failed failed' left))
-    (IsReadBegun p input (lines_by f left) (source_of f named failed failed' left)) job_end before after) (sym is)
-    (subst (λ (s : Option (List ℕ)). Gives (IsReadAnswer p input (lines_of left) s)
-    (IsReadBegun p input (lines_of left) s) job_end before after) (was_read failed failed' (named name) same)
-    (gives_of_front p input (lines_of left) (named name) front job_end before after fronts h))
+    Gives (IsSourceAnswer p input (typed terminal left) front) (IsSourceBegun p input (typed terminal left) front)
+    job_end before after →
+    Gives (IsReadAnswer p input (lines_by terminal file left) (source_of file named failed failed' left))
+    (IsReadBegun p input (lines_by terminal file left) (source_of file named failed failed' left)) job_end before after
+with_file terminal p input file name named failed failed' left front job_end before after is same fronts h =
+    subst (λ (f : Option Text).
+    Gives (IsReadAnswer p input (lines_by terminal f left) (source_of f named failed failed' left))
+    (IsReadBegun p input (lines_by terminal f left) (source_of f named failed failed' left)) job_end before after)
+    (sym is)
+    (subst (λ (s : Option (List ℕ)). Gives (IsReadAnswer p input (typed terminal left) s)
+    (IsReadBegun p input (typed terminal left) s) job_end before after) (was_read failed failed' (named name) same)
+    (gives_of_front p input (typed terminal left) (named name) front job_end before after fronts h))
 
-pub without_file : (p : Planned) (input : Option (List ℕ)) (file : Option Text) (named : List ℕ → List ℕ)
-    (failed failed' : ℕ) (left front nothing : List ℕ) (job_end : JobEnd) (before after : List ℕ) → file ≡ None →
+pub without_file : (terminal : Bool) (p : Planned) (input : Option (List ℕ)) (file : Option Text)
+    (named : List ℕ → List ℕ) (failed failed' : ℕ) (left front nothing : List ℕ) (job_end : JobEnd) (before after : List ℕ) → file ≡ None →
     nothing ≡ [] → front ≡ take (longest + 1) left →
-    Gives (IsSourceAnswer p input (lines_of nothing) front) (IsSourceBegun p input (lines_of nothing) front) job_end
-    before after →
-    Gives (IsReadAnswer p input (lines_by file left) (source_of file named failed failed' left))
-    (IsReadBegun p input (lines_by file left) (source_of file named failed failed' left)) job_end before after
-without_file p input file named failed failed' left front nothing job_end before after is none fronts h =
-    subst (λ (f : Option Text). Gives (IsReadAnswer p input (lines_by f left) (source_of f named failed failed' left))
-    (IsReadBegun p input (lines_by f left) (source_of f named failed failed' left)) job_end before after) (sym is)
-    (gives_of_front p input [] left front job_end before after fronts
-    (subst (λ (l : List ℕ). Gives (IsSourceAnswer p input (lines_of l) front)
-    (IsSourceBegun p input (lines_of l) front) job_end before after) none h))
+    Gives (IsSourceAnswer p input (typed false nothing) front) (IsSourceBegun p input (typed false nothing) front)
+    job_end before after →
+    Gives (IsReadAnswer p input (lines_by terminal file left) (source_of file named failed failed' left))
+    (IsReadBegun p input (lines_by terminal file left) (source_of file named failed failed' left)) job_end before after
+without_file terminal p input file named failed failed' left front nothing job_end before after is none fronts h =
+    subst (λ (f : Option Text).
+    Gives (IsReadAnswer p input (lines_by terminal f left) (source_of f named failed failed' left))
+    (IsReadBegun p input (lines_by terminal f left) (source_of f named failed failed' left)) job_end before after)
+    (sym is)
+    (gives_of_front p input (typed false []) left front job_end before after fronts
+    (subst (λ (l : List ℕ). Gives (IsSourceAnswer p input (typed false l) front)
+    (IsSourceBegun p input (typed false l) front) job_end before after) none h))
 
-pub unopened_file : (p : Planned) (input : Option (List ℕ)) (file : Option Text) (name : Text)
+pub unopened_file : (terminal : Bool) (p : Planned) (input : Option (List ℕ)) (file : Option Text) (name : Text)
     (named : List ℕ → List ℕ) (failed failed' : ℕ) (left : List ℕ) (job_end : JobEnd) (before : List ℕ) →
     file ≡ Some name → EndsUnopened job_end → failed' ≡ failed + failed_files job_end →
-    Gives (IsReadAnswer p input (lines_by file left) (source_of file named failed failed' left))
-    (IsReadBegun p input (lines_by file left) (source_of file named failed failed' left)) job_end before before
-unopened_file p input file name named failed failed' left FileNotRead before is h count =
+    Gives (IsReadAnswer p input (lines_by terminal file left) (source_of file named failed failed' left))
+    (IsReadBegun p input (lines_by terminal file left) (source_of file named failed failed' left)) job_end before before
+unopened_file terminal p input file name named failed failed' left FileNotRead before is h count =
     let none : source_of file named failed failed' left ≡ None =
     ap (λ (f : Option Text). source_of f named failed failed' left) is
     ∙ not_read_if failed failed' (named name) count in (
       _,
       subst (λ (s : Option (List ℕ)).
-          IsReadAnswer p input (lines_by file left) s (refused_by 4 (notice_text notice.FileNotRead))) (sym none)
-          not_read,
+          IsReadAnswer p input (lines_by terminal file left) s (refused_by 4 (notice_text notice.FileNotRead)))
+          (sym none) not_read,
       ((refl, refl), sym (append-nil before)),
     )
-unopened_file p input file name named failed failed' left NoMemory before is h count = unwritten refl
-unopened_file p input file name named failed failed' left InputTooLong before is h count = absurd h
-unopened_file p input file name named failed failed' left (Answered status text) before is h count = absurd h
-unopened_file p input file name named failed failed' left ReadFailed before is h count = absurd h
-unopened_file p input file name named failed failed' left WriteFailed before is h count = absurd h
+unopened_file terminal p input file name named failed failed' left NoMemory before is h count = unwritten refl
+unopened_file terminal p input file name named failed failed' left InputTooLong before is h count = absurd h
+unopened_file terminal p input file name named failed failed' left (Answered status text) before is h count = absurd h
+unopened_file terminal p input file name named failed failed' left ReadFailed before is h count = absurd h
+unopened_file terminal p input file name named failed failed' left WriteFailed before is h count = absurd h
 
 -- the answer to a job by its plan
 pub planned_gives : (w : Wanted) (p : Planned) (chosen : Chosen) (named : List ℕ → List ℕ) (failed failed' : ℕ)
-    (lines : List (List ℕ)) (source : Option (List ℕ)) (job_end : JobEnd) (before after : List ℕ) →
+    (lines : Lines) (source : Option (List ℕ)) (job_end : JobEnd) (before after : List ℕ) →
     AreGivenBy w.choices w.seed chosen → p ≡ with_choices w chosen →
     Gives (IsReadAnswer p (input_of p.input named failed failed') lines source)
     (IsReadBegun p (input_of p.input named failed failed') lines source) job_end before after →

@@ -1,7 +1,11 @@
 pub mod Doing
 pub mod AnswerLaws
 pub mod Giving
+pub mod Leaving
+pub mod OneEnd
+pub mod OneSession
 pub mod PlanLaws
 pub mod RunLaws
+pub mod StopLaws
 pub mod TalkLaws
 pub mod TraceLaws

@@ -49,7 +49,7 @@ given_not_refused text None chosen line (by_text t c g) (unread u m h) = read_no
 given_not_refused None (Some seed) chosen line (by_seed n) h = elim h [ ]
 given_not_refused (Some text) (Some seed) chosen line given h = elim given [ ]
 
-refused_once : (text : Option Text) (seed : Option ℕ) (a b : Notice) → AreRefused text seed a →
+pub refused_once : (text : Option Text) (seed : Option ℕ) (a b : Notice) → AreRefused text seed a →
     AreRefused text seed b → b ≡ a
 refused_once (Some text) (Some seed) a b (together t n) (together u m) = refl
 refused_once None (Some seed) a b refused h = elim refused [ ]

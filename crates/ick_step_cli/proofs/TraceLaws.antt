@@ -18,19 +18,20 @@ use Rattle.ick_backtrack.specs.declared.asking.Ask.{Ask}
 use Rattle.ick_backtrack.specs.declared.asking.Ask.TheVariants.{Ended}
 use Rattle.ick_backtrack.specs.declared.asking.End.{End}
 use Rattle.ick_inspect.specs.Text.{Adds}
-use Rattle.ick_inspect.specs.declared.positions.Position.{Position}
+use Rattle.ick_inspect.specs.declared.positions.LineColumn.{LineColumn}
 use Rattle.ick_inspect.specs.declared.text.Text.{Text}
 use Rattle.ick_inspect.proofs.AddLaws.{pieces_more, range_more}
 use Rattle.ick_runs.specs.Chosen.{Chosen}
 use Rattle.ick_step.specs.History.{after, choices_in, done_by}
-use Rattle.ick_step.specs.Session.{Seen, present, with_answer}
+use Rattle.ick_step.specs.Seen.{Seen, present, with_answer}
 use Rattle.ick_session.specs.Shown.{here_text}
-use Rattle.ick_session.specs.Stepper.{Settings}
+use Rattle.ick_session.specs.Session.{Settings}
 use Rattle.ick_session.specs.Travel.{answer_to, next_answer, state_after}
 use Rattle.ick_session.proofs.CountLaws.{no_choice, one_choice}
 use Rattle.ick_session.proofs.TravelLaws.{Made, made_more, none_made, stops_over, stops_stuck}
 use Rattle.ick_step_cli.specs.Serve.{IsCutShort, written}
 use Rattle.ick_step_cli.specs.Tool.{IsBegun, traced_whole, tracing}
+use Rattle.ick_step_cli.specs.Talk.{Lines}
 use Rattle.ick_step_cli.specs.Trace.{IsRun, IsRunning, begin, nowhere, step_lines, steps_text, stop_at}
 use Rattle.ick_step_cli.specs.Trace.{trace_text}
 use Rattle.ick_step_cli.specs.Traced.{Buffers, Flushes, HasTraced, IsTraced, flushed, kept, traced_run}
@@ -71,7 +72,7 @@ same_pieces f g (suc n) h =
     ∙ sym (next_piece g n)))
 
 -- the lines of one more step
-pub steps_more : (code : Code) (positions : List Position) (t : Seen) (a : Option Bool) →
+pub steps_more : (code : Code) (positions : List LineColumn) (t : Seen) (a : Option Bool) →
     steps_text code positions (with_answer a t)
     ≡ steps_text code positions t ++ step_lines t.program code positions (length t.answers) (present t) a
 steps_more code positions t a =
@@ -93,7 +94,7 @@ steps_more code positions t a =
     ∙ (next_piece (lines u) n ∙ ap₂ (λ x y. x ++ y) (same_pieces (lines u) (lines t) n earlier) last)
 
 -- a run that goes on: its steps so far, and their lines
-pub record Tracing (f : Settings) (code : Code) (positions : List Position) (m : Machine) (steps chosen : ℕ) (told : Bool)
+pub record Tracing (f : Settings) (code : Code) (positions : List LineColumn) (m : Machine) (steps chosen : ℕ) (told : Bool)
     (before now : List ℕ) (out : Text) : Type 0 where
   pub seen : Seen
   pub made : Made f.given nowhere steps (begin f) seen
@@ -102,7 +103,7 @@ pub record Tracing (f : Settings) (code : Code) (positions : List Position) (m :
   pub chosen_is : chosen ≡ length (choices_in seen.answers)
   pub buffers : Buffers told (steps_text code positions seen) before now out
 
-pub traces_none : (m : Machine) (chosen : Chosen) (limit : ℕ) (code : Code) (positions : List Position) (told : Bool)
+pub traces_none : (m : Machine) (chosen : Chosen) (limit : ℕ) (code : Code) (positions : List LineColumn) (told : Bool)
     (before : List ℕ) (out : Text) → out.bytes.items ≡ [] →
     Tracing (traced_run m chosen limit) code positions m 0 0 told before before out
 traces_none m chosen limit code positions told before out none = record {
@@ -141,7 +142,7 @@ counted xs (Some b) k n some e is f =
     let more : from_bool some ≡ 1 = ap from_bool is in omega arith
 
 -- .. after one more step
-pub traces_more : (f : Settings) (code : Code) (positions : List Position) (m n : Machine) (steps chosen chosen' : ℕ)
+pub traces_more : (f : Settings) (code : Code) (positions : List LineColumn) (m n : Machine) (steps chosen chosen' : ℕ)
     (told : Bool) (before now : List ℕ) (out new : Text) (a : Option Bool) (some : Bool) →
     (h : Tracing f code positions m steps chosen told before now out) →
     Some a ≡ answer_to f.given chosen (ask m.program m.state) → n.program ≡ m.program →
@@ -190,7 +191,7 @@ flushes told text before now after out new h (flushed none all) = record {
   says = λ _. none;
 }
 
-pub traces_flushed : (f : Settings) (code : Code) (positions : List Position) (m : Machine) (steps chosen : ℕ)
+pub traces_flushed : (f : Settings) (code : Code) (positions : List LineColumn) (m : Machine) (steps chosen : ℕ)
     (told : Bool) (before now after : List ℕ) (out new : Text) →
     Tracing f code positions m steps chosen told before now out → Flushes told out new now after →
     Tracing f code positions m steps chosen told before after new
@@ -234,7 +235,7 @@ all_written told text before now after out h is sound e =
     ∙ (append_assoc before h.said h.pending ∙ ap (λ l. before ++ l) (sym h.text_is)))
 
 -- the steps so far are those of a run within its limit
-pub runs_on : (f : Settings) (code : Code) (positions : List Position) (m : Machine) (steps chosen : ℕ) (told : Bool)
+pub runs_on : (f : Settings) (code : Code) (positions : List LineColumn) (m : Machine) (steps chosen : ℕ) (told : Bool)
     (before now : List ℕ) (out : Text) (h : Tracing f code positions m steps chosen told before now out) →
     steps ≤ f.limit → IsRunning f h.seen
 runs_on f code positions m steps chosen told before now out h within =
@@ -252,19 +253,19 @@ runs_on f code positions m steps chosen told before now out h within =
     }
 
 -- what was written if a step can't be made, or a flush fails
-pub trace_cut : (f : Settings) (code : Code) (positions : List Position) (m : Machine) (steps chosen : ℕ) (told : Bool)
+pub trace_cut : (f : Settings) (code : Code) (positions : List LineColumn) (m : Machine) (steps chosen : ℕ) (told : Bool)
     (before now : List ℕ) (out : Text) → Tracing f code positions m steps chosen told before now out →
-    steps ≤ f.limit → IsCompiled f.program code → told ≡ true → (lines : List (List ℕ)) →
+    steps ≤ f.limit → IsCompiled f.program code → told ≡ true → (lines : Lines) →
     IsCutShort (IsBegun f positions lines true) before now
 trace_cut f code positions m steps chosen told before now out h within compiled is lines =
     cut_now told _ before now out (IsBegun f positions lines true) h.buffers is
     (tracing code h.seen compiled (runs_on f code positions m steps chosen told before now out h within))
 
-pub trace_cut_flush : (f : Settings) (code : Code) (positions : List Position) (m : Machine) (steps chosen : ℕ)
+pub trace_cut_flush : (f : Settings) (code : Code) (positions : List LineColumn) (m : Machine) (steps chosen : ℕ)
     (told : Bool) (before now after : List ℕ) (out : Text) (n : ℕ) →
     Tracing f code positions m steps chosen told before now out → steps ≤ f.limit → IsCompiled f.program code →
     told ≡ true → after ≡ now ++ take n out.bytes.items → (out.refused ≡ true → n ≡ 0) →
-    (lines : List (List ℕ)) → IsCutShort (IsBegun f positions lines true) before after
+    (lines : Lines) → IsCutShort (IsBegun f positions lines true) before after
 trace_cut_flush f code positions m steps chosen told before now after out n h within compiled is e none lines =
     cut_flush told _ before now after out (IsBegun f positions lines true) n h.buffers is
     (tracing code h.seen compiled (runs_on f code positions m steps chosen told before now out h within)) e none
@@ -278,7 +279,7 @@ is_run f steps t made within (inr stuck) = by (eq-or-lt_of_le within) where
   by (inl over) = stops_over f.given nowhere steps f.limit (begin f) t made over
   by (inr lt) = stops_stuck f.given nowhere steps f.limit (begin f) t t made lt refl stuck
 
-pub stopped_so : (f : Settings) (code : Code) (positions : List Position) (m : Machine) (steps chosen : ℕ) (told : Bool)
+pub stopped_so : (f : Settings) (code : Code) (positions : List LineColumn) (m : Machine) (steps chosen : ℕ) (told : Bool)
     (before now : List ℕ) (out : Text) (stopped : Stopped) →
     (h : Tracing f code positions m steps chosen told before now out) → steps ≤ f.limit → stopped.steps ≡ steps →
     (steps ≡ f.limit) ⊎ (answer_to f.given chosen (ask m.program m.state) ≡ None) →
@@ -337,7 +338,7 @@ stop_wants (choice chance) chosen n limit steps going other none =
 stop_wants (ended end) chosen n limit steps going other none = absurd going
 
 -- the place where a run stops is in the buffer too
-stop_buffered : (f : Settings) (code : Code) (positions : List Position) (stopped : Stopped) (m : Machine) (told : Bool)
+stop_buffered : (f : Settings) (code : Code) (positions : List LineColumn) (stopped : Stopped) (m : Machine) (told : Bool)
     (before now : List ℕ) (out new : Text) (h : HasTraced f code positions stopped m told before now out) →
     Adds out new (here_text m.program positions stopped.steps m.state) →
     Buffers told (trace_text code positions h.seen) before now new
@@ -350,7 +351,7 @@ stop_buffered f code positions stopped m told before now out new h adds =
     (subst (λ s. Adds out new (here_text t.program positions stopped.steps s)) h.state
     (subst (λ (p : Program). Adds out new (here_text p positions stopped.steps m.state)) h.program adds)))
 
-pub traced_all : (f : Settings) (code : Code) (positions : List Position) (stopped : Stopped) (m : Machine) (told : Bool)
+pub traced_all : (f : Settings) (code : Code) (positions : List LineColumn) (stopped : Stopped) (m : Machine) (told : Bool)
     (before now after : List ℕ) (out new : Text) (h : HasTraced f code positions stopped m told before now out) →
     Adds out new (here_text m.program positions stopped.steps m.state) → told ≡ true → new.refused ≡ false →
     after ≡ now ++ new.bytes.items → IsTraced f code positions stopped before after
@@ -362,12 +363,12 @@ traced_all f code positions stopped m told before now after out new h adds is so
       (stop_buffered f code positions stopped m told before now out new h adds) is sound e;
 }
 
-pub traced_cut : (f : Settings) (code : Code) (positions : List Position) (stopped : Stopped) (m : Machine) (told : Bool)
+pub traced_cut : (f : Settings) (code : Code) (positions : List LineColumn) (stopped : Stopped) (m : Machine) (told : Bool)
     (before now after : List ℕ) (out new : Text) (n : ℕ) →
     (h : HasTraced f code positions stopped m told before now out) →
     Adds out new (here_text m.program positions stopped.steps m.state) → IsCompiled f.program code → told ≡ true →
     after ≡ now ++ take n new.bytes.items → (new.refused ≡ true → n ≡ 0) →
-    (lines : List (List ℕ)) → IsCutShort (IsBegun f positions lines true) before after
+    (lines : Lines) → IsCutShort (IsBegun f positions lines true) before after
 traced_cut f code positions stopped m told before now after out new n h adds compiled is e none lines =
     let stops = h.has_stopped in
     cut_flush told _ before now after new (IsBegun f positions lines true) n

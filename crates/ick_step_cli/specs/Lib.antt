@@ -4,6 +4,7 @@ pub mod Plan
 pub mod Trace
 pub mod Talk
 pub mod Tool
+pub mod Left
 pub mod Traced
 pub mod Serve
 pub mod Laws

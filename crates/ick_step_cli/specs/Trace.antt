@@ -10,13 +10,13 @@ use Rattle.ick_backtrack.specs.Asked.{Finish, finished, at_limit}
 use Rattle.ick_backtrack.specs.Machine.{Program}
 use Rattle.ick_explorer.specs.declared.errors.RunsError.{RunsError}
 use Rattle.ick_explorer.specs.declared.errors.RunsError.TheVariants.{NoMemory, Write}
-use Rattle.ick_inspect.specs.declared.positions.Position.{Position}
+use Rattle.ick_inspect.specs.declared.positions.LineColumn.{LineColumn}
 use Rattle.ick_job.specs.Answer.{Answer}
 use Rattle.ick_step.specs.History.{done_by}
-use Rattle.ick_step.specs.Session.{Seen, present}
+use Rattle.ick_step.specs.Seen.{Seen, present}
 use Rattle.ick_session.specs.Changes.{step_text}
 use Rattle.ick_session.specs.Shown.{answered_text, here_text, place_text}
-use Rattle.ick_session.specs.Stepper.{Settings}
+use Rattle.ick_session.specs.Session.{Settings}
 use Rattle.ick_session.specs.Travel.{AreGiven, GoesOn, StopsFirst, state_after}
 
 -- a run before its first step
@@ -42,18 +42,18 @@ given_line (Some done) (choice chance) = answered_text chance done
 given_line (Some done) _ = []
 
 -- the lines of a step that has this answer: the statement that it met, the choice, and what the step changed
-abbrev pub step_lines : Program → Code → List Position → (steps : ℕ) → State → Option Bool → List ℕ
+abbrev pub step_lines : Program → Code → List LineColumn → (steps : ℕ) → State → Option Bool → List ℕ
 step_lines p code positions steps s answer =
     place_text p positions steps s ++ given_line answer (ask p s) ++ step_text p code s (done_by answer)
 
 -- the lines of all its steps
-abbrev pub steps_text : Code → List Position → Seen → List ℕ
+abbrev pub steps_text : Code → List LineColumn → Seen → List ℕ
 steps_text code positions t = flat_map
     (λ k. step_lines t.program code positions k (state_after t k) (get_or t.answers k None))
     (range_with_len 0 (length t.answers))
 
 -- .. and where it stops
-abbrev pub trace_text : Code → List Position → Seen → List ℕ
+abbrev pub trace_text : Code → List LineColumn → Seen → List ℕ
 trace_text code positions t =
     steps_text code positions t ++ here_text t.program positions (length t.answers) (present t)
 
@@ -77,7 +77,7 @@ stop_status (Some (finished gave_up)) = 0
 stop_status (Some (finished (faulted kind statement subject))) = 1
 
 -- the answer of a trace
-abbrev pub trace_answer : (limit : ℕ) → Code → List Position → Seen → Answer
+abbrev pub trace_answer : (limit : ℕ) → Code → List LineColumn → Seen → Answer
 trace_answer limit code positions t =
     let stop = stop_at limit (length t.answers) (ask t.program (present t)) in
     record {

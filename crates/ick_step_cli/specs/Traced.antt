@@ -4,12 +4,12 @@ use Rattle.ick_code.specs.declared.code.Code.{Code}
 use Rattle.ick_code.specs.meaning.Move.{ask}
 use Rattle.ick_backtrack.specs.Asked.{finish_of}
 use Rattle.ick_backtrack.specs.Machine.{Machine}
-use Rattle.ick_inspect.specs.declared.positions.Position.{Position}
+use Rattle.ick_inspect.specs.declared.positions.LineColumn.{LineColumn}
 use Rattle.ick_inspect.specs.declared.text.Text.{Text}
 use Rattle.ick_runs.specs.Chosen.{Chosen}
-use Rattle.ick_step.specs.Session.{Seen, present}
+use Rattle.ick_step.specs.Seen.{Seen, present}
 use Rattle.ick_session.specs.Lines.{Says}
-use Rattle.ick_session.specs.Stepper.{Settings, no_breakpoint}
+use Rattle.ick_session.specs.Session.{Settings, no_breakpoint}
 use Rattle.ick_step_cli.specs.Trace.{IsRun, steps_text, stop_at, trace_text}
 use Rattle.ick_step_cli.specs.declared.trace.Stopped.{Stopped}
 
@@ -44,7 +44,7 @@ pub record HasStopped (f : Settings) (t : Seen) (stopped : Stopped) : Type 0 whe
   pub end : option_map finish_of stopped.end ≡ stop_at f.limit (length t.answers) (ask t.program (present t))
 
 -- .. where the machine is, and the lines of its steps were written or are in a buffer
-pub record HasTraced (f : Settings) (code : Code) (positions : List Position) (stopped : Stopped) (m : Machine)
+pub record HasTraced (f : Settings) (code : Code) (positions : List LineColumn) (stopped : Stopped) (m : Machine)
     (told : Bool) (before after : List ℕ) (out : Text) : Type 0 where
   pub seen : Seen
   pub has_stopped : HasStopped f seen stopped
@@ -53,7 +53,7 @@ pub record HasTraced (f : Settings) (code : Code) (positions : List Position) (s
   pub buffers : Buffers told (steps_text code positions seen) before after out
 
 -- .. and its whole trace was written
-pub record IsTraced (f : Settings) (code : Code) (positions : List Position) (stopped : Stopped) (before after : List ℕ)
+pub record IsTraced (f : Settings) (code : Code) (positions : List LineColumn) (stopped : Stopped) (before after : List ℕ)
     : Type 0 where
   pub seen : Seen
   pub has_stopped : HasStopped f seen stopped

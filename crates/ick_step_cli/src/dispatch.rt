@@ -8,14 +8,17 @@ ghost use Rattle.ick_code.specs.Compiled.{code_program};
 ghost use Rattle.ick_explorer.specs.Writes.{write_failures};
 ghost use Rattle.ick_job.specs.Input.{longest_input};
 ghost use Rattle.ick_job.specs.JobEnd.{EndsBy, EndsByLine, Leaves, LeavesStreams, LeavesWriter};
-ghost use Rattle.ick_job.specs.JobEnd.{source_of};
+ghost use Rattle.ick_job.specs.JobEnd.{WhereAnswered, source_of};
 ghost use Rattle.ick_job.specs.Stopped.{stopped_status, stopped_text};
 ghost use Rattle.ick_job.specs.declared.notice.Notice.{Notice};
 ghost use Rattle.ick_source.specs.Cut.{IsCut};
+ghost use Rattle.ick_syntax.specs.StatementTree.{statement_trees};
 ghost use Rattle.ick_step_cli.specs.Job.{has_file, wanted};
+ghost use Rattle.ick_step_cli.specs.Left.{HasNoProgram, IsLeft, IsLeftByRun, IsLeftBySource};
+ghost use Rattle.ick_step_cli.specs.Left.{IsLeftRead, IsRefusedFile};
 ghost use Rattle.ick_step_cli.specs.Plan.{AreRefused, planned_by};
 ghost use Rattle.ick_step_cli.specs.Serve.{EndsUnread, Gives, IsCutShort};
-ghost use Rattle.ick_step_cli.specs.Talk.{lines_of};
+ghost use Rattle.ick_step_cli.specs.Talk.{Lines, typed};
 ghost use Rattle.ick_step_cli.specs.Tool.{IsBegun, IsReadAnswer, IsReadBegun, IsRunAnswer};
 ghost use Rattle.ick_step_cli.specs.Tool.{IsSourceAnswer, IsSourceBegun, IsStepAnswer, IsStepBegun};
 ghost use Rattle.ick_step_cli.specs.Tool.{Placed, input_of, lines_by, run_of};
@@ -28,12 +31,14 @@ use crate::trace::{Stopped, trace};
 use crate::words::Job;
 use ick_bits::{NoMemory, append_message};
 use ick_code::{Code, compile};
-use ick_explorer::{ByteSink, ByteSource, RunsError, SliceSource};
-use ick_inspect::{Position, one_start, positions_of};
-use ick_job::{Files, JobEnd, LONGEST, Stop, read_file, read_front, refused, stopped_run};
+use ick_devices::{ByteSink, ByteSource, Files, SliceSource};
+use ick_explorer::RunsError;
+use ick_inspect::{LineColumn, one_start, positions_of};
+use ick_job::{JobEnd, LONGEST, Stop, read_file, read_front, refused, stopped_run};
 use ick_machine::{End, Trailed};
-use ick_session::{Pair, Stepper};
+use ick_session::{Pair, Session};
 use ick_source::read_source;
+use ick_syntax::Statement;
 use std::alloc::Global;
 
 /// Reads the input, which is empty if no file is named. If it can't be read, the work ends.
@@ -65,13 +70,14 @@ fn read_input<I: Files>(
 }
 
 /// Does a job up to its error text. The source is in the file that the job names, and the reader
-/// has the commands. If the job names no file, the reader has the source, and there are no
-/// commands.
+/// has the commands, which are typed at a terminal or aren't. If the job names no file, the reader
+/// has the source, and there are no commands.
 pub fn perform<F: Files, I: Files, R: ByteSource, W: ByteSink>(
     alloc: Global,
     job: &Job<'_>,
     files: &mut F,
     inputs: &mut I,
+    terminal: bool,
     reader: &mut R,
     writer: &mut W,
 ) -> JobEnd
@@ -88,13 +94,17 @@ pub fn perform<F: Files, I: Files, R: ByteSource, W: ByteSink>(
         (F.failed files.new) (R.left reader.old) in
         let input = input_of job.input (I.named inputs.old) (I.failed inputs.old)
         (I.failed inputs.new) in
-        let lines = lines_by job.file (R.left reader.old) in
+        let lines = lines_by terminal job.file (R.left reader.old) in
         Gives (IsStepAnswer job input lines source) (IsStepBegun job input lines source) result
         (W.written writer.old) (W.written writer.new) }
+    ensures left { F.told ≡ true → I.told ≡ true → R.told ≡ true → WhereAnswered result
+        (IsLeft (wanted job.now) (F.named files.old) (R.left reader.old) (R.left reader.new)) }
     ensures reader_kept { has_file (wanted job.now) ≡ true → (wanted job.now).trace ≡ true
         → reader.new ≡ reader.old }
     ensures files_kept { has_file (wanted job.now) ≡ false → files.new ≡ files.old }
     ensures inputs_kept { (wanted job.now).input ≡ None → inputs.new ≡ inputs.old }
+    ensures inputs_refused { F.told ≡ true → IsRefusedFile (wanted job.now).file (F.named files.old)
+        → inputs.new ≡ inputs.old }
     ensures source_first { has_file (wanted job.now) ≡ false
         → R.failed reader.old < R.failed reader.new → writer.new ≡ writer.old }
     ensures unplanned { let job = wanted job.now in
@@ -103,7 +113,9 @@ pub fn perform<F: Files, I: Files, R: ByteSource, W: ByteSink>(
         × (writer.new ≡ writer.old) × EndsByLine (λ other. other ≡ line) result }
 {
     match plan_of(alloc, job) {
-        Ok(plan) => answer_job(alloc, job.file, plan, files, inputs, reader, writer),
+        Ok(plan) => answer_job(
+            alloc, job.file, plan, files, inputs, terminal, reader, writer,
+        ),
         Err(job_end) => job_end,
     }
 }
@@ -115,6 +127,7 @@ fn answer_job<F: Files, I: Files, R: ByteSource, W: ByteSink>(
     plan: Plan<'_>,
     files: &mut F,
     inputs: &mut I,
+    terminal: bool,
     reader: &mut R,
     writer: &mut W,
 ) -> JobEnd
@@ -132,26 +145,48 @@ fn answer_job<F: Files, I: Files, R: ByteSource, W: ByteSink>(
         (F.failed files.new) (R.left reader.old) in
         let input = input_of plan.input (I.named inputs.old) (I.failed inputs.old)
         (I.failed inputs.new) in
-        let lines = lines_by file (R.left reader.old) in
+        let lines = lines_by terminal file (R.left reader.old) in
         Gives (IsReadAnswer plan input lines source) (IsReadBegun plan input lines source) result
         (W.written writer.old) (W.written writer.new) }
+    ensures left { F.told ≡ true → I.told ≡ true → R.told ≡ true → WhereAnswered result
+        (IsLeftRead (option_map (λ s. s.now) file.entry) (planned_by plan.entry).trace
+        (F.named files.old) (R.left reader.old) (R.left reader.new)) }
     ensures reader_kept { is_some (option_map (λ s. s.now) file.entry) ≡ true
         → (planned_by plan.entry).trace ≡ true → reader.new ≡ reader.old }
     ensures files_kept { is_some (option_map (λ s. s.now) file.entry) ≡ false
         → files.new ≡ files.old }
     ensures inputs_kept { (planned_by plan.entry).input ≡ None → inputs.new ≡ inputs.old }
+    ensures inputs_refused { F.told ≡ true
+        → IsRefusedFile (option_map (λ s. s.now) file.entry) (F.named files.old)
+        → inputs.new ≡ inputs.old }
     ensures source_first { is_some (option_map (λ s. s.now) file.entry) ≡ false
         → R.failed reader.old < R.failed reader.new → writer.new ≡ writer.old }
 {
     match file {
         Some(name) => match read_file(alloc, name, files) {
-            Ok(source) => answer_source(alloc, plan, source.as_slice(), inputs, reader, writer),
+            Ok(source) => answer_source(
+                alloc,
+                plan,
+                source.as_slice(),
+                inputs,
+                terminal,
+                reader,
+                writer,
+            ),
             Err(job_end) => job_end,
         },
         None => match read_front(alloc, reader) {
             Ok(source) => {
                 let mut nothing = SliceSource::new(&[]);
-                answer_source(alloc, plan, source.as_slice(), inputs, &mut nothing, writer)
+                answer_source(
+                    alloc,
+                    plan,
+                    source.as_slice(),
+                    inputs,
+                    false,
+                    &mut nothing,
+                    writer,
+                )
             }
             Err(job_end) => job_end,
         },
@@ -164,6 +199,7 @@ fn answer_source<I: Files, R: ByteSource, W: ByteSink>(
     plan: Plan<'_>,
     source: &[u8],
     inputs: &mut I,
+    terminal: bool,
     reader: &mut R,
     writer: &mut W,
 ) -> JobEnd
@@ -176,12 +212,15 @@ fn answer_source<I: Files, R: ByteSource, W: ByteSink>(
         let plan = planned_by plan.entry in
         let input = input_of plan.input (I.named inputs.old) (I.failed inputs.old)
         (I.failed inputs.new) in
-        let lines = lines_of (R.left reader.old) in
+        let lines = typed terminal (R.left reader.old) in
         Gives (IsSourceAnswer plan input lines source.now)
         (IsSourceBegun plan input lines source.now) result
         (W.written writer.old) (W.written writer.new) }
+    ensures left { I.told ≡ true → R.told ≡ true → WhereAnswered result (IsLeftBySource
+        (planned_by plan.entry).trace source.now (R.left reader.old) (R.left reader.new)) }
     ensures reader_kept { (planned_by plan.entry).trace ≡ true → reader.new ≡ reader.old }
     ensures inputs_kept { (planned_by plan.entry).input ≡ None → inputs.new ≡ inputs.old }
+    ensures inputs_refused { HasNoProgram source.now → inputs.new ≡ inputs.old }
 {
     let program = match read_source(alloc, source) {
         Ok(program) => program,
@@ -192,21 +231,35 @@ fn answer_source<I: Files, R: ByteSource, W: ByteSink>(
         Err(NoMemory) => return JobEnd::NoMemory,
     };
     match read_input(alloc, plan.input, inputs) {
-        Ok(input) => { answer_code(alloc, &code, source, input.as_slice(), plan, reader, writer) }
+        Ok(input) => answer_code(
+            alloc,
+            program.statements(),
+            &code,
+            source,
+            input.as_slice(),
+            plan,
+            terminal,
+            reader,
+            writer,
+        ),
         Err(job_end) => job_end,
     }
 }
 
-/// Traces a run of code over an input, or steps through it.
+/// Traces a run of code over an input, or steps through it. The statements are those of the code's
+/// program.
 fn answer_code<R: ByteSource, W: ByteSink>(
     alloc: Global,
+    statements: &[Statement<'_>],
     code: &Code<'_>,
     source: &[u8],
     input: &[u8],
     plan: Plan<'_>,
+    terminal: bool,
     reader: &mut R,
     writer: &mut W,
 ) -> JobEnd
+    requires statements { statement_trees statements.now ≡ code_program code.now }
     requires reader_sound { R.failed reader.old + 1 < 2 ^ 64 }
     requires writer_sound { W.failed writer.old + 1 < 2 ^ 64 }
     ensures leaves { LeavesStreams result (R.failed reader.old) (R.failed reader.new)
@@ -214,12 +267,14 @@ fn answer_code<R: ByteSource, W: ByteSink>(
     ensures gives { R.told ≡ true → W.told ≡ true → IsCut source.now (code_program code.now) →
         let plan = planned_by plan.entry in
         let f = run_of (code_program code.now) input.now plan in
-        let lines = lines_of (R.left reader.old) in
+        let lines = typed terminal (R.left reader.old) in
         Gives (λ answer. Placed source.now f.program (λ positions.
         IsRunAnswer f positions lines plan.trace answer))
         (λ text. Placed source.now f.program (λ positions.
         IsBegun f positions lines plan.trace text))
         result (W.written writer.old) (W.written writer.new) }
+    ensures left { R.told ≡ true → WhereAnswered result (IsLeftByRun (R.left reader.old)
+        (planned_by plan.entry).trace (R.left reader.new)) }
     ensures reader_kept { (planned_by plan.entry).trace ≡ true → reader.new ≡ reader.old }
 {
     // The positions are those of the source, which has one list of them.
@@ -235,15 +290,23 @@ fn answer_code<R: ByteSource, W: ByteSink>(
         Ok(machine) => machine,
         Err(NoMemory) => return JobEnd::NoMemory,
     };
-    let mut stepper = Stepper::new(alloc, machine, plan.given, plan.limit);
-    talk(alloc, &positions, &mut stepper, reader, writer)
+    let mut session = Session::new(alloc, machine, plan.given, plan.limit);
+    talk(
+        alloc,
+        &positions,
+        statements,
+        &mut session,
+        terminal,
+        reader,
+        writer,
+    )
 }
 
 /// Traces a run of code over an input.
 fn answer_trace<W: ByteSink>(
     alloc: Global,
     code: &Code<'_>,
-    positions: &[Position],
+    positions: &[LineColumn],
     input: &[u8],
     plan: Plan<'_>,
     writer: &mut W,
@@ -251,7 +314,7 @@ fn answer_trace<W: ByteSink>(
     requires sound { W.failed writer.old + 1 < 2 ^ 64 }
     requires positions { length positions.now ≡ length (code_program code.now) }
     ensures leaves { LeavesWriter result (W.failed writer.old) (W.failed writer.new) }
-    ensures gives { W.told ≡ true → (lines : List (List ℕ)) →
+    ensures gives { W.told ≡ true → (lines : Lines) →
         let f = run_of (code_program code.now) input.now (planned_by plan.entry) in
         Gives (IsRunAnswer f positions.now lines true) (IsBegun f positions.now lines true)
         result (W.written writer.old) (W.written writer.new) }
@@ -267,7 +330,7 @@ fn answer_trace<W: ByteSink>(
 fn traced<'c, W: ByteSink>(
     alloc: Global,
     code: &'c Code<'_>,
-    positions: &[Position],
+    positions: &[LineColumn],
     input: &'c [u8],
     plan: Plan<'_>,
     writer: &mut W,
@@ -280,7 +343,7 @@ fn traced<'c, W: ByteSink>(
         W.told ≡ true → IfOk result (λ stopped. IsTraced f code.now positions.now stopped
         (W.written writer.old) (W.written writer.new)) }
     ensures cut { let f = run_of (code_program code.now) input.now (planned_by plan.entry) in
-        W.told ≡ true → OnErr result ((lines : List (List ℕ)) →
+        W.told ≡ true → OnErr result ((lines : Lines) →
         IsCutShort (IsBegun f positions.now lines true)
         (W.written writer.old) (W.written writer.new)) }
 {

@@ -7,8 +7,8 @@ ghost use Rattle.ick_step_cli.specs.Program.{step};
 
 use crate::dispatch::perform;
 use crate::words::read_job;
-use ick_explorer::{ByteSink, ByteSource};
-use ick_job::{Files, Status, answer_words, report};
+use ick_devices::{ByteSink, ByteSource, Files};
+use ick_job::{Status, answer_words, report};
 use std::alloc::Global;
 
 /// Does the job that the arguments ask for, and returns the exit status.
@@ -20,12 +20,16 @@ use std::alloc::Global;
 /// refusal or a failure goes to `errors`, after the output. The arguments, the statuses and the
 /// texts are this profile's.
 ///
+/// If the commands are typed at a `terminal`, a prompt is written before each line is read, and an
+/// empty line repeats the last one.
+///
 /// The counts of failures of all devices must be below their greatest values.
 pub fn serve_step<F: Files, I: Files, R: ByteSource, W: ByteSink, E: ByteSink>(
     alloc: Global,
     words: &[&str],
     files: &mut F,
     inputs: &mut I,
+    terminal: bool,
     reader: &mut R,
     writer: &mut W,
     errors: &mut E,
@@ -35,7 +39,7 @@ pub fn serve_step<F: Files, I: Files, R: ByteSource, W: ByteSink, E: ByteSink>(
     requires reader_sound { R.failed reader.old + 1 < 2 ^ 64 }
     requires writer_sound { W.failed writer.old + 1 < 2 ^ 64 }
     requires errors_sound { E.failed errors.old + 1 < 2 ^ 64 }
-    ensures { ServesArguments step (texts words.entry.now)
+    ensures { ServesArguments (step terminal) (texts words.entry.now)
         (both (files_by F.told F.failed F.named files.old files.new)
         (files_by I.told I.failed I.named inputs.old inputs.new))
         (stream R.told R.failed R.left reader.old reader.new)
@@ -44,7 +48,7 @@ pub fn serve_step<F: Files, I: Files, R: ByteSource, W: ByteSink, E: ByteSink>(
 {
     match read_job(alloc, words) {
         Ok(job) => {
-            let job_end = perform(alloc, &job, files, inputs, reader, writer);
+            let job_end = perform(alloc, &job, files, inputs, terminal, reader, writer);
             report(&job_end, errors)
         }
         Err(error) => answer_words(alloc, &error, writer, errors),

@@ -6,7 +6,7 @@
 //! - `trace`: the lines of all steps of a run
 //! - `session`: commands line by line, and their answers
 //! - `dispatch`: from a job to its answer, by its source and its input
-//! - `laws`: each run has one trace
+//! - `laws`: each job ends in one way, and each session and each run has one text
 //! - `driver`: the whole, from the arguments to the status
 #![tactic(auto)]
 
@@ -19,5 +19,5 @@ mod trace;
 mod words;
 
 pub use driver::serve_step;
-pub use laws::one_trace;
+pub use laws::{one_end, one_session, one_trace};
 pub use session::talk;

@@ -13,13 +13,15 @@ ghost use Rattle.ick_session.specs.Given.{given_by};
 ghost use Rattle.ick_session.specs.Travel.{answer_to};
 ghost use Rattle.ick_step_cli.specs.Serve.{IsCutShort};
 ghost use Rattle.ick_step_cli.specs.Tool.{IsBegun};
+ghost use Rattle.ick_step_cli.specs.Talk.{Lines};
 ghost use Rattle.ick_step_cli.specs.Trace.{IsTraceError, given_line, step_lines};
 ghost use Rattle.ick_step_cli.specs.Traced.{Flushes, HasTraced, IsTraced, traced_run};
 
 use ick_bits::NoMemory;
 use ick_code::Code;
-use ick_explorer::{ByteSink, RunsError, write_whole};
-use ick_inspect::{Position, Text};
+use ick_devices::{ByteSink, write_whole};
+use ick_explorer::RunsError;
+use ick_inspect::{LineColumn, Text};
 use ick_machine::{Ask, Asks, End, Trailed};
 use ick_session::{Given, Pair, append_answered, append_here, append_place, trace_step};
 use std::alloc::Global;
@@ -115,7 +117,7 @@ fn append_given(out: &mut Text, machine: &Trailed<'_, '_>, answer: Option<bool>)
 fn append_lines(
     machines: &mut Pair<'_, '_>,
     code: &Code<'_>,
-    positions: &[Position],
+    positions: &[LineColumn],
     steps: u32,
     answer: Option<bool>,
     out: &mut Text,
@@ -148,7 +150,7 @@ fn append_lines(
 fn trace_steps<'c, 'a, W: ByteSink>(
     machines: &mut Pair<'c, 'a>,
     code: &Code<'_>,
-    positions: &[Position],
+    positions: &[LineColumn],
     given: &mut Given,
     limit: u32,
     out: &mut Text,
@@ -169,7 +171,7 @@ fn trace_steps<'c, 'a, W: ByteSink>(
         (W.written writer.old) (W.written writer.new) out.new) }
     ensures cut { let f = traced_run (trailed_machine machines.old.before)
         (given_by given.old) limit in W.told ≡ true → OnErr result (
-        (lines : List (List ℕ)) → IsCutShort (IsBegun f positions.now lines true)
+        (lines : Lines) → IsCutShort (IsBegun f positions.now lines true)
         (W.written writer.old) (W.written writer.new)) }
 {
     code.law();
@@ -209,7 +211,7 @@ pub fn trace<'c, 'a, W: ByteSink>(
     alloc: Global,
     machines: &mut Pair<'c, 'a>,
     code: &Code<'_>,
-    positions: &[Position],
+    positions: &[LineColumn],
     given: &mut Given,
     limit: u32,
     writer: &mut W,
@@ -228,7 +230,7 @@ pub fn trace<'c, 'a, W: ByteSink>(
         (W.written writer.old) (W.written writer.new)) }
     ensures cut { let f = traced_run (trailed_machine machines.old.before)
         (given_by given.old) limit in W.told ≡ true → OnErr result (
-        (lines : List (List ℕ)) → IsCutShort (IsBegun f positions.now lines true)
+        (lines : Lines) → IsCutShort (IsBegun f positions.now lines true)
         (W.written writer.old) (W.written writer.new)) }
 {
     code.law();

@@ -5,7 +5,7 @@ ghost use Rattle.std.specs.Prelude.{if◌then◌else◌, IfOk, OnErr, OnSome, is
 ghost use Rattle.std.specs.Prelude.{slice_index, take};
 ghost use Rattle.std.specs.Io.KnownBytes.{Consumes, IsAtEnd, Keeps, ReadConsumes, WriteAppends};
 
-use ick_explorer::{DeviceFault, line_length};
+use ick_devices::{DeviceFault, line_length};
 use std::io::{BufRead, Read, Write};
 
 /// Reads some bytes. If the target isn't empty and no byte comes, the stream has ended.

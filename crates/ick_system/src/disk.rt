@@ -4,8 +4,7 @@ ghost use Rattle.std.specs.Prelude.{◌≡◌, Some, [], false};
 ghost use Rattle.std.specs.Option.{option_map_or};
 
 use crate::counted::read_from;
-use ick_explorer::{ByteSource, DeviceFault};
-use ick_job::Files;
+use ick_devices::{ByteSource, DeviceFault, Files};
 use std::fs::{self, File};
 use std::io::{self, Read};
 use std::os::fd::AsRawFd;

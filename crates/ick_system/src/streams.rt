@@ -7,7 +7,7 @@ ghost use Rattle.std.specs.Prelude.{slice_index, take};
 ghost use Rattle.std.specs.Io.KnownBytes.{Consumes, IsAtEnd, Keeps, WriteAppends};
 
 use crate::counted::{read_ahead_from, read_from, write_to};
-use ick_explorer::{ByteSink, ByteSource, DeviceFault};
+use ick_devices::{ByteSink, ByteSource, DeviceFault};
 use std::io::{BufRead, Write};
 
 /// Reads a stream. A single byte and the bytes of a line come from what the stream has read ahead.

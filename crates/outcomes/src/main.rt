@@ -1,14 +1,17 @@
 //! The program `ick-outcomes`: lists the outcomes of a program of INTERCAL-72, over the files and
 //! the streams of the system.
 //!
+//! - `screen`: the error stream with reports of long work
 //! - `serving`: the arguments answered over any devices
 #![tactic(auto)]
 
+mod screen;
 mod serving;
 
 use ick_system::{DiskFiles, InStream, OutStream, arguments, exit_code};
+use screen::Screen;
 use serving::answer;
-use std::io::Lock;
+use std::io::{IsTerminal, Lock};
 use std::process::ExitCode;
 
 fn main(rt: HostRuntime) -> ExitCode {
@@ -17,7 +20,10 @@ fn main(rt: HostRuntime) -> ExitCode {
     let mut listings = DiskFiles::new(&rt);
     let mut reader = InStream::new(rt.stdin().lock());
     let mut writer = OutStream::new(rt.stdout());
-    let mut errors = OutStream::new(rt.stderr());
+    let terminal = rt.stderr().is_terminal();
+    let messages = OutStream::new(rt.stderr());
+    let lines = OutStream::new(rt.stderr());
+    let mut errors = Screen::new(rt.alloc(), messages, lines, terminal);
     exit_code(answer(
         rt.alloc(),
         arguments,

@@ -4,8 +4,8 @@ ghost use Rattle.ick_job.specs.Program.{RefusesUnread, ServesArguments, files_by
 ghost use Rattle.ick_stages_cli.specs.Program.{stages};
 ghost use Rattle.ick_system.specs.Arguments.{after_name};
 
-use ick_explorer::{ByteSink, ByteSource};
-use ick_job::{Files, Status, WordsFault, refuse_words};
+use ick_devices::{ByteSink, ByteSource, Files};
+use ick_job::{Status, WordsFault, refuse_words};
 use ick_stages_cli::serve_stages;
 use ick_system::words_of;
 use std::alloc::Global;

@@ -8,13 +8,14 @@ mod serving;
 
 use ick_system::{DiskFiles, InStream, OutStream, arguments, exit_code};
 use serving::answer;
-use std::io::Lock;
+use std::io::{IsTerminal, Lock};
 use std::process::ExitCode;
 
 fn main(rt: HostRuntime) -> ExitCode {
     let arguments = arguments(&rt);
     let mut files = DiskFiles::new(&rt);
     let mut inputs = DiskFiles::new(&rt);
+    let terminal = rt.stdin().is_terminal() && rt.stdout().is_terminal();
     let mut reader = InStream::new(rt.stdin().lock());
     let mut writer = OutStream::new(rt.stdout());
     let mut errors = OutStream::new(rt.stderr());
@@ -23,6 +24,7 @@ fn main(rt: HostRuntime) -> ExitCode {
         arguments,
         &mut files,
         &mut inputs,
+        terminal,
         &mut reader,
         &mut writer,
         &mut errors,

@@ -4,19 +4,21 @@ ghost use Rattle.ick_job.specs.Program.{RefusesUnread, ServesArguments, both, fi
 ghost use Rattle.ick_step_cli.specs.Program.{step};
 ghost use Rattle.ick_system.specs.Arguments.{after_name};
 
-use ick_explorer::{ByteSink, ByteSource};
-use ick_job::{Files, Status, WordsFault, refuse_words};
+use ick_devices::{ByteSink, ByteSource, Files};
+use ick_job::{Status, WordsFault, refuse_words};
 use ick_step_cli::serve_step;
 use ick_system::words_of;
 use std::alloc::Global;
 
 /// Answers the arguments that the system hands over, and returns the exit status. Arguments that
-/// can't be read get their line, and files, inputs, reader and writer are unchanged.
+/// can't be read get their line, and files, inputs, reader and writer are unchanged. Commands are
+/// typed at a `terminal`, or aren't.
 pub fn answer<F: Files, I: Files, R: ByteSource, W: ByteSink, E: ByteSink>(
     alloc: Global,
     arguments: Result<Vec<String>, WordsFault>,
     files: &mut F,
     inputs: &mut I,
+    terminal: bool,
     reader: &mut R,
     writer: &mut W,
     errors: &mut E,
@@ -26,7 +28,7 @@ pub fn answer<F: Files, I: Files, R: ByteSource, W: ByteSink, E: ByteSink>(
     requires reader_sound { R.failed reader.old + 1 < 2 ^ 64 }
     requires writer_sound { W.failed writer.old + 1 < 2 ^ 64 }
     requires errors_sound { E.failed errors.old + 1 < 2 ^ 64 }
-    ensures served { IfOk arguments (λ a. ServesArguments step (after_name a.items)
+    ensures served { IfOk arguments (λ a. ServesArguments (step terminal) (after_name a.items)
         (both (files_by F.told F.failed F.named files.old files.new)
         (files_by I.told I.failed I.named inputs.old inputs.new))
         (stream R.told R.failed R.left reader.old reader.new)
@@ -41,7 +43,9 @@ pub fn answer<F: Files, I: Files, R: ByteSource, W: ByteSink, E: ByteSink>(
 {
     match arguments {
         Ok(arguments) => {
-            serve_arguments(alloc, &arguments, files, inputs, reader, writer, errors)
+            serve_arguments(
+                alloc, &arguments, files, inputs, terminal, reader, writer, errors,
+            )
         }
         Err(fault) => refuse_words(fault, errors),
     }
@@ -54,6 +58,7 @@ pub fn serve_arguments<F: Files, I: Files, R: ByteSource, W: ByteSink, E: ByteSi
     arguments: &[String],
     files: &mut F,
     inputs: &mut I,
+    terminal: bool,
     reader: &mut R,
     writer: &mut W,
     errors: &mut E,
@@ -63,7 +68,7 @@ pub fn serve_arguments<F: Files, I: Files, R: ByteSource, W: ByteSink, E: ByteSi
     requires reader_sound { R.failed reader.old + 1 < 2 ^ 64 }
     requires writer_sound { W.failed writer.old + 1 < 2 ^ 64 }
     requires errors_sound { E.failed errors.old + 1 < 2 ^ 64 }
-    ensures { ServesArguments step (after_name arguments.now)
+    ensures { ServesArguments (step terminal) (after_name arguments.now)
         (both (files_by F.told F.failed F.named files.old files.new)
         (files_by I.told I.failed I.named inputs.old inputs.new))
         (stream R.told R.failed R.left reader.old reader.new)
@@ -76,6 +81,7 @@ pub fn serve_arguments<F: Files, I: Files, R: ByteSource, W: ByteSink, E: ByteSi
             words.as_slice(),
             files,
             inputs,
+            terminal,
             reader,
             writer,
             errors,

@@ -8,7 +8,7 @@ use crate::messages::message;
 use crate::numerals::{letters, numeral};
 use crate::operators::{mingled, selected, unary, width};
 use crate::programs::answer_by_program;
-use crate::sources::{faults, refusal, statements};
+use crate::sources::{faults, refusal, statements, stop};
 use crate::tape::{tape_byte, tape_number};
 use crate::texts::{Text, append_failure};
 use ick_bits::NoMemory;
@@ -104,6 +104,8 @@ fn answer_of_source(alloc: Global, row: &Row, out: &mut Text) -> Result<(), Fail
         faults(alloc, row, out)
     } else if row.calls(b"statements") {
         statements(alloc, row, out)
+    } else if row.calls(b"stop") {
+        stop(alloc, row, out)
     } else if row.calls(b"body") {
         body(alloc, row, out)
     } else {

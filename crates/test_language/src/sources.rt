@@ -2,7 +2,7 @@
 
 use crate::failure::Failure;
 use crate::texts::{Text, append_fault, append_number, append_refusal, append_shown};
-use ick_source::{FaultAt, Listed, Refusal, Seen, read_source, read_statements};
+use ick_source::{FaultAt, Listed, Refusal, Seen, read_source, read_statements, stop_of};
 use ick_syntax::{Body, Program};
 use std::alloc::Global;
 use test_rows::Row;
@@ -74,6 +74,24 @@ fn append_fault_at(out: &mut Text, fault: &FaultAt) {
     }
     append_fault(out, fault.kind);
     append_number(out, b"@", u64::from(fault.number));
+}
+
+/// Appends where the reading of the statement stops with which a source begins, and what is wanted
+/// there.
+pub fn stop(alloc: Global, row: &Row, out: &mut Text) -> Result<(), Failure> {
+    let Ok(stop) = stop_of(alloc, row.field(b"source"), 0) else {
+        return Err(Failure::NoMemory);
+    };
+    match stop {
+        Some(stop) => {
+            let within: &[u8] = if stop.within { b" within: " } else { b": " };
+            out.append_decimal(stop.at as u64);
+            out.append(within);
+            out.append(stop.wanted.text());
+        }
+        None => out.append(b"no stop"),
+    }
+    Ok(())
 }
 
 /// Appends the statements of a source that may be refused.

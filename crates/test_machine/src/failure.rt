@@ -1,7 +1,7 @@
 //! Why a row has no answers.
 
 use ick_bits::NoMemory;
-use ick_machine::FeedFault;
+use ick_devices::FeedFault;
 use std::alloc::{AllocError, AllocFailed};
 
 /// Why a row has no answers: memory is refused, a comparison failed, or the row asks for something

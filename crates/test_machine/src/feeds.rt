@@ -4,7 +4,8 @@ ghost use Rattle.std.specs.Prelude.{true};
 
 use crate::failure::Failure;
 use ick_code::Code;
-use ick_machine::{Feed, FeedFault, Live, LiveAsk};
+use ick_devices::{Feed, FeedFault};
+use ick_machine::{Live, LiveAsk};
 use std::alloc::Global;
 use test_rows::first_line;
 

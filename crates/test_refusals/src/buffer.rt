@@ -3,7 +3,7 @@
 ghost use Rattle.std.specs.Prelude.{[], false};
 
 use ick_bits::{append_decimal, append_quoted};
-use ick_runs::{ByteSink, DeviceFault};
+use ick_devices::{ByteSink, DeviceFault};
 use std::alloc::{AllocError, Global};
 use test_rows::{Row, Tally};
 

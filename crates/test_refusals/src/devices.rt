@@ -3,7 +3,7 @@
 ghost use Rattle.std.specs.Prelude.{◌≡◌, [], false};
 
 use crate::buffer::Buffer;
-use ick_runs::{ByteSink, ByteSource, DeviceFault};
+use ick_devices::{ByteSink, ByteSource, DeviceFault};
 use std::alloc::{AllocError, Global};
 
 /// A source that hands out `piece` bytes a call, and at least one, and fails once `good` calls were

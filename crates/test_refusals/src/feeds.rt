@@ -2,7 +2,7 @@
 
 ghost use Rattle.std.specs.Prelude.{true};
 
-use ick_machine::{Feed, FeedFault};
+use ick_devices::{Feed, FeedFault};
 use test_rows::first_line;
 
 /// A text as a feed. It fails only if memory runs out.

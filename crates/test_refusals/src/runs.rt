@@ -4,7 +4,8 @@ use crate::context::Context;
 use crate::ends::{say_choices, say_end, say_kind};
 use crate::failure::{Call, Failure, Wrong};
 use crate::fields::{choices, code_of, limit, number};
-use ick_runs::{Chooser, Ran, RunsError, SliceSource, Streamed, run_seeded, run_stream, run_with};
+use ick_devices::SliceSource;
+use ick_runs::{Chooser, Ran, RunsError, Streamed, run_seeded, run_stream, run_with};
 use test_rows::Row;
 
 /// Adds the run with the choices of a row.

@@ -7,7 +7,8 @@ use crate::devices::WornSource;
 use crate::failure::{Call, Failure, Wrong};
 use crate::shelf::Shelf;
 use arrayvec::ArrayVec;
-use ick_cli::{WordsFault, refuse_words, serve};
+use ick_cli::serve;
+use ick_job::{WordsFault, refuse_words};
 use test_rows::Row;
 
 /// The most arguments of a row.

@@ -3,8 +3,7 @@
 ghost use Rattle.std.specs.Prelude.{[], false};
 
 use crate::devices::WornSource;
-use ick_cli::Files;
-use ick_runs::{ByteSource, DeviceFault};
+use ick_devices::{ByteSource, DeviceFault, Files};
 
 /// Two files: `f` has these bytes, and `e` has none. `source` reads the file that was opened last,
 /// and `opened` counts how often a file was opened. To read them takes no memory.

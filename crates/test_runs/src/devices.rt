@@ -2,7 +2,7 @@
 
 ghost use Rattle.std.specs.Prelude.{true};
 
-use ick_runs::{ByteSink, ByteSource, DeviceFault};
+use ick_devices::{ByteSink, ByteSource, DeviceFault};
 
 /// A source whose reads fail after so many were made.
 #[derive(Drop)]

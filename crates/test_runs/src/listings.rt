@@ -6,8 +6,9 @@ use crate::fields::{short_number, start_of};
 use crate::tasks::Task;
 use crate::texts::append_failure;
 use ick_code::Code;
+use ick_devices::VecSink;
 use ick_machine::Asks;
-use ick_runs::{Explorer, VecSink, write_runs};
+use ick_runs::{Explorer, write_runs};
 use std::alloc::Global;
 use test_rows::Row;
 

@@ -10,8 +10,9 @@ ghost use Rattle.test_runs.specs.Machines.{name_of};
 
 use ick_bits::NoMemory;
 use ick_code::Code;
+use ick_devices::{SliceSource, VecSink};
 use ick_machine::{Copied, Trailed};
-use ick_runs::{Chooser, Ran, SliceSource, VecSink, run_from, run_stream};
+use ick_runs::{Chooser, Ran, run_from, run_stream};
 use std::alloc::Global;
 
 /// A machine that can be measured.

@@ -10,10 +10,10 @@ use crate::tasks::Task;
 use crate::texts::{append_choices, append_end_name, append_number};
 use ick_bits::{NoMemory, append_quoted};
 use ick_code::Code;
+use ick_devices::{SliceSource, VecSink};
 use ick_machine::{Asks, Backtrack, Copied};
 use ick_runs::{
-    Chooser, Drawn, Run, RunsError, SliceSource, Streamed, VecSink, drawn, run_seeded,
-    run_seeded_from, run_stream,
+    Chooser, Drawn, Run, RunsError, Streamed, drawn, run_seeded, run_seeded_from, run_stream,
 };
 use rand_core::SeedableRng;
 use rand_core::utils::NextWord;

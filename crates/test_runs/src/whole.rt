@@ -7,7 +7,8 @@ use crate::failure::Failure;
 use crate::fields::number;
 use crate::texts::append_number;
 use ick_bits::append_quoted;
-use ick_runs::{ByteSink, ReadFault, RunsError, SliceSource, VecSink, read_first, write_whole};
+use ick_devices::{ByteSink, ReadFault, SliceSource, VecSink, read_first, write_whole};
+use ick_runs::RunsError;
 use std::alloc::Global;
 use test_rows::Row;
 

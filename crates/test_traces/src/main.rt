@@ -51,7 +51,7 @@ fn show_code(rt: &HostRuntime, code: &Code<'_>, steps: u32) -> io::Result<()> {
     let Ok(mut memory) = fresh_memory(rt.alloc(), &lowered) else {
         return Err(ErrorKind::OutOfMemory.into());
     };
-    memory.cursor.left = steps;
+    memory.point.left = steps;
     let Exit::Limit = run_steps(
         &lowered,
         &mut memory,
@@ -112,10 +112,10 @@ fn print_run(
     if !Nobody.has_room(lowered.longest()) {
         return Err(ErrorKind::OutOfMemory.into());
     }
-    memory.cursor.left = 1000;
-    let mut cursor = memory.cursor;
-    follow_traces(lowered, traces, &mut memory, &mut Nobody, &mut cursor);
-    let (place, left, depth) = (cursor.place, cursor.left, cursor.depth);
+    memory.point.left = 1000;
+    let mut point = memory.point;
+    follow_traces(lowered, traces, &mut memory, &mut Nobody, &mut point);
+    let (place, left, depth) = (point.place, point.left, point.depth);
     println!(rt;
         "at statement {place} with {left} of 1000 steps left and {depth} return addresses"
     )?;

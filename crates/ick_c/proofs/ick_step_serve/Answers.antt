@@ -1,4 +1,4 @@
-use Rattle.ick_explorer.specs.Written.{Written}
+use Rattle.ick_devices.specs.Written.{Written}
 use Rattle.ick_c.specs.StepCall.{StepOfBytes}
 use Rattle.ick_c.proofs.CallLemmas.{from_nothing}
 use Rattle.ick_c.proofs.ick_step_serve.Goals as goal

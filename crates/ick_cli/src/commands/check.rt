@@ -5,8 +5,8 @@ ghost use Rattle.ick_job.specs.JobEnd.{Answers, LeavesWriter};
 ghost use Rattle.ick_cli.specs.Summary.{summary};
 ghost use Rattle.ick_job.specs.Answer.{shown};
 
+use ick_devices::ByteSink;
 use ick_job::{JobEnd, Message, send};
-use ick_runs::ByteSink;
 use ick_syntax::Program;
 use std::alloc::{AllocError, Global};
 

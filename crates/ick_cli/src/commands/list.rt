@@ -6,8 +6,8 @@ ghost use Rattle.ick_job.specs.JobEnd.{Answers, LeavesWriter};
 ghost use Rattle.ick_job.specs.Answer.{shown};
 
 use ick_bits::NoMemory;
+use ick_devices::ByteSink;
 use ick_job::{JobEnd, Message, send};
-use ick_runs::ByteSink;
 use ick_source::append_listing;
 use ick_syntax::Program;
 use std::alloc::Global;

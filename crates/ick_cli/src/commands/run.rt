@@ -20,7 +20,7 @@ pub fn choices_in(cursor: &Option<Cursor>) -> &[bool]
 }
 
 /// Returns how the work ends with a run, whose output is written.
-pub fn ended(alloc: Global, ran: Result<Streamed, RunsError>) -> JobEnd
+pub fn job_end_of(alloc: Global, ran: Result<Streamed, RunsError>) -> JobEnd
     requires { IfErr ran Comes }
     ensures { EndsAs ran result }
 {

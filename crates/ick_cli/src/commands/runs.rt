@@ -14,9 +14,10 @@ ghost use Rattle.ick_cli.specs.Tool.{IsRunsAnswer};
 
 use crate::plan::Runs;
 use ick_code::Code;
+use ick_devices::{ByteSink, ByteSource};
 use ick_job::{JobEnd, Message, read_input};
 use ick_machine::{Asks, Trailed};
-use ick_runs::{ByteSink, ByteSource, Cursor, Explorer, RunsError, write_runs};
+use ick_runs::{Cursor, Explorer, RunsError, write_runs};
 use std::alloc::Global;
 
 /// Answers code by the listing of its runs over an input, which is read whole. It lists all runs,

@@ -73,6 +73,13 @@ pub const MOST: Argument<'static> = Argument {
     help: "How many states are kept at a time; 1000000 if none is given",
 };
 
+/// The option for the bytes that the states may take.
+pub const MEMORY: Argument<'static> = Argument {
+    name: "memory",
+    form: Form::Number(ValueParser::Unsigned(1, 18_446_744_073_709_551_615)),
+    help: "How many bytes the states may take if no limit is given; 2000000000 if none is given",
+};
+
 /// The option by which weights are exact.
 pub const EXACT: Argument<'static> = Argument {
     name: "exact",
@@ -85,6 +92,20 @@ pub const TOTAL: Argument<'static> = Argument {
     name: "total",
     form: Form::Flag,
     help: "Prints only how many outcomes and how many runs there are",
+};
+
+/// The option by which outcomes are told apart by their ends alone.
+pub const ENDS: Argument<'static> = Argument {
+    name: "ends",
+    form: Form::Flag,
+    help: "Tells outcomes apart by their ends alone, and leaves out what runs write",
+};
+
+/// The option by which states and where they lead are printed.
+pub const STATES: Argument<'static> = Argument {
+    name: "states",
+    form: Form::Flag,
+    help: "Prints the states in which choices are asked, and where the choices lead",
 };
 
 /// The option for the listing whose choices are explained.
@@ -107,6 +128,13 @@ pub const OPERATIONS: Argument<'static> = Argument {
     name: "operations",
     form: Form::Flag,
     help: "Prints the operations of each statement, and how deep the stack is behind each",
+};
+
+/// The option by which the places of the parts of each statement are printed.
+pub const PARTS: Argument<'static> = Argument {
+    name: "parts",
+    form: Form::Flag,
+    help: "Prints the places of the parts of each statement, and where reading stops",
 };
 
 /// The option by which the steps of lowering are printed.

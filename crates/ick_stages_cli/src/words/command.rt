@@ -1,7 +1,9 @@
 //! The program `ick-stages`, as it is described.
 
 use crate::words::help;
-use ick_job::{BUG, Description, FILE, INSTRUCTIONS, OPERATIONS, RULES, STATEMENT, TRACES, TREE};
+use ick_job::{
+    BUG, Description, FILE, INSTRUCTIONS, OPERATIONS, PARTS, RULES, STATEMENT, TRACES, TREE,
+};
 
 /// The program.
 pub const STAGES: Description<'static> = Description {
@@ -12,6 +14,7 @@ pub const STAGES: Description<'static> = Description {
         BUG,
         TREE,
         OPERATIONS,
+        PARTS,
         RULES,
         INSTRUCTIONS,
         TRACES,

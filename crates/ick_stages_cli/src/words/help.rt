@@ -4,7 +4,9 @@
 pub const STAGES: &str =
     "Prints for each statement its line as in `ick list`, with its line and column behind its
 number, then the lines of its stages, and last DONE. Without one of --tree, --operations,
---rules, --instructions and --traces the lines of all stages are printed.
+--parts, --rules, --instructions and --traces the lines of all stages are printed. If the source
+is refused, the stages are trees and parts, and REFUSED is printed with the number of the fault
+and that of the statement. --parts prints every fault before it.
 
 Exit status:
   0   the stages were shown

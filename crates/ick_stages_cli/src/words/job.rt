@@ -39,6 +39,7 @@ fn job_by<'a>(values: &Values<'a>) -> Job<'a>
 {
     let some = values.tree
         || values.operations
+        || values.parts
         || values.rules
         || values.instructions
         || values.traces;
@@ -46,6 +47,8 @@ fn job_by<'a>(values: &Values<'a>) -> Job<'a>
         asked: Asked {
             tree: values.tree || !some,
             operations: values.operations || !some,
+            parts: values.parts || !some,
+            places: values.parts,
             rules: values.rules || !some,
             instructions: values.instructions || !some,
             traces: values.traces || !some,

@@ -1,11 +1,12 @@
 use Rattle.std.proofs.Common.{inl, inr, refl, rules}
 use Rattle.clap.specs.Walk.{texts}
 use Rattle.ick_outcomes_cli.specs.Job.{job_of}
+use Rattle.ick_outcomes_cli.proofs.Showing.{served_unshown}
 use Rattle.ick_c.proofs.OutcomesLemmas.{served_from}
 use Rattle.ick_c.proofs.outcomes_call.outcomes_over_memory.Goals as goal
 
 pub returns-clause-served : goal.returns-clause-served
-returns-clause-served c = let call = c.serve_outcomes.ensures in record {
+returns-clause-served c = let call = served_unshown c.args.errors.now c.serve_outcomes.ensures refl in record {
   job = λ has_job.
       served_from (job_of (texts c.args.arguments.now)) c.args.file.now _ c.args.listing.now _ c.args.input.now _
       c.args.writer.now c.serve_outcomes.new.writer c.args.errors.now c.serve_outcomes.new.errors

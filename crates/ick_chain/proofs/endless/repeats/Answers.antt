@@ -1,6 +1,6 @@
 use Rattle.std.proofs.Common.{◌≡◌, ◌∙◌, sym, ap, subst}
 use Rattle.ick_code.specs.meaning.State.{State}
-use Rattle.ick_code.specs.meaning.Move.{ask}
+use Rattle.ick_outcomes.specs.Programs.{ask}
 use Rattle.std.proofs.Common.{Some}
 use Rattle.ick_backtrack.specs.Asked.{finish_of, asked_at_end}
 use Rattle.ick_chain.specs.ExactListings.{HasEndlessRuns}

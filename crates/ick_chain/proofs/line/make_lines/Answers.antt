@@ -1,4 +1,7 @@
-use Rattle.std.proofs.Common.{◌≡◌, inl, inr, [], ◌∷◌, ◌++◌, ap, sym, ◌∙◌, append_assoc, length}
+use Rattle.std.proofs.Common.{◌≡◌, [], ◌∷◌, ◌++◌, ap, sym, ◌∙◌, append_assoc, length}
+use Rattle.std.specs.Prelude.{option_map}
+use Rattle.ick_numbers.specs.Values.{natural}
+use Rattle.ick_chain.specs.Lines.{one_of}
 use Rattle.ick_chain.proofs.LineTexts.{made_more}
 use Rattle.ick_chain.proofs.line.make_lines.Goals as goal
 
@@ -18,9 +21,10 @@ rows-preserved c =
           c.index-first-at.result c.len-at.result parts c.rows.invariant.made at c.if-at-counts.false
           c.if-at-shown.false c.if-at-first.false c.index-counts-at.is c.index-shown-at.is c.index-first-at.is
           c.in_ok-line.ensures.row c.in_ok-line.ensures.count
-          (elim c.in_ok-line.ensures.run [
-            | inl e ↦ inl (e ∙ c.deref.ensures.value)
-            | inr e ↦ inr (e ∙ c.deref-in-rows.ensures.value)
-          ])
+          (c.in_ok-line.ensures.run
+          ∙ (ap (λ z. one_of (option_map natural c.index-counts-at.result) z c.deref-in-rows.result.now)
+          c.deref.ensures.value
+          ∙ ap (λ z. one_of (option_map natural c.index-counts-at.result) c.index-shown-at.result.items z)
+          c.deref-in-rows.ensures.value))
           c.in_ok-add_line.ensures;
     }

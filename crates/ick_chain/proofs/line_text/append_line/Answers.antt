@@ -8,7 +8,7 @@ returns c =
     let count = c.in_ok-count.count.items in
     let weight = c.in_ok-weight.weight.items in
     record {
-      line = line_parts (line_of c.args.line.now) count weight;
+      line = line_parts c.args.silent (line_of c.args.line.now) count weight;
       is_line = record {
         count = count;
         weight = weight;

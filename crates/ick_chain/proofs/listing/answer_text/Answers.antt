@@ -38,5 +38,5 @@ returns g c =
       never = rest;
       lines = lines_of c.in_ok-lines.lines.items;
       are_lines = lines s parts rest steps weight begins exact rows shown first;
-      text_is = f p ss s c.requires.full begins stuck;
+      text_is = f p ss s c.is_silent.ensures c.requires.full begins stuck;
     }) texts

@@ -9,7 +9,7 @@ returns-clause-text g c =
     (λ text f. f s e.first e.exact)
 
 pub returns-clause-many : goal.returns-clause-many
-returns-clause-many g c = λ h. absurd (c.unsearched.ensures.many h)
+returns-clause-many g c = λ steps h. absurd (c.unsearched.ensures.many steps h)
 
 pub returns-clause-much : goal.returns-clause-much
 returns-clause-much g c = λ h. absurd (c.unsearched.ensures.much h)

@@ -8,6 +8,7 @@ use Rattle.ick_chain.specs.Places.{state_or, states_in}
 use Rattle.ick_chain.specs.Rows.{rows_of, weight_of}
 use Rattle.ick_chain.specs.Tallied.{of_states}
 use Rattle.ick_chain.proofs.Placing.{got_in, or_got, states_long}
+use Rattle.ick_chain.proofs.Ranking.{ranked_all, ranked_more}
 use Rattle.ick_chain.proofs.RowLaws.{are_rows, ends_of, got_at, passing_more}
 use Rattle.ick_chain.proofs.rows.rows_at.Goals as goal
 
@@ -47,12 +48,25 @@ nodes-preserved g c =
           c.requires.visits c.index-visits-at.is
           (ap (of_states q) (or_got ss c.nodes.at d (seen c.index-states-at.result).state
           (got_in seen c.args.states.now c.nodes.at c.index-states-at.result lt c.index-states-at.is)))
-          (c.nodes.invariant.weights d q) (c.in_ok-file_node.ensures.added q);
-      apart = c.in_ok-file_node.ensures.apart c.nodes.invariant.apart;
+          (c.nodes.invariant.weights d q) (c.in_ok-file_node.ensures.grow.added q);
+      apart = c.in_ok-file_node.ensures.grow.apart c.nodes.invariant.apart;
+      ranked = ranked_more (g.P.States.text c.args.program.now) ss c.args.nodes.now c.args.ranks.now
+          c.nodes.table.rows.items c.file_node.new.table.rows.items c.nodes.at (seen c.index-states-at.result).state
+          (slice_index_or c.args.nodes.now c.nodes.at Ends) c.rank_at-rank.result
+          (got_at c.args.nodes.now c.nodes.at Ends within)
+          (got_in seen c.args.states.now c.nodes.at c.index-states-at.result lt c.index-states-at.is)
+          c.rank_at-rank.ensures c.in_ok-file_node.ensures.kept c.in_ok-file_node.ensures.ranked c.nodes.invariant.ranked;
     }
 
-pub returns : goal.returns
-returns g c = λ d.
+pub returns-clause-ranked : goal.returns-clause-ranked
+returns-clause-ranked g c =
+    let stop = c.nodes-test.false in
+    ranked_all (g.P.States.text c.args.program.now) (states_in (g.P.States.seen c.args.program.now) c.args.states.now)
+    c.args.nodes.now c.args.ranks.now c.nodes.table.rows.items c.nodes.at (omega (arith, stop))
+    c.nodes.invariant.ranked
+
+pub returns-clause-rows : goal.returns-clause-rows
+returns-clause-rows g c = λ d.
     let ss = states_in (g.P.States.seen c.args.program.now) c.args.states.now in
     let stop = c.nodes-test.false in
     let all : length c.args.nodes.now ≤ c.nodes.at = omega (arith, stop) in

@@ -1,5 +1,5 @@
 use Rattle.std.proofs.Common.{◌≡◌, Some, subst}
-use Rattle.ick_code.specs.meaning.Move.{ask}
+use Rattle.ick_outcomes.specs.Programs.{ask}
 use Rattle.ick_backtrack.specs.Asked.{asked_of}
 use Rattle.ick_chain.proofs.search.asked.Goals as goal
 

@@ -1,4 +1,4 @@
-use Rattle.std.proofs.Common.{◌≡◌, true, sym, subst}
+use Rattle.std.proofs.Common.{sym, subst}
 use Rattle.ick_chain.proofs.Reaching.{new_all, new_next}
 use Rattle.ick_chain.proofs.search.find_equal.Goals as goal
 

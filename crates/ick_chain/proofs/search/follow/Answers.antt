@@ -1,6 +1,5 @@
 use Rattle.std.proofs.Common.{◌≡◌, ◌+◌, ◌-◌, refl, subst, arith}
-use Rattle.ick_code.specs.meaning.Move.{advance}
-use Rattle.ick_backtrack.specs.Steps.{IsPlain, RunsOn}
+use Rattle.ick_outcomes.specs.Programs.{advance, IsPlain, RunsOn}
 use Rattle.ick_chain.specs.Places.{states_in}
 use Rattle.ick_chain.proofs.Placing.{got_in, got_same}
 use Rattle.ick_chain.proofs.Reaching.{reached_on}
@@ -40,6 +39,6 @@ returns-clause-reaches g c = λ s h.
       to = to;
       there = c.in_ok-to.ensures.there;
       some = omega arith;
-      runs = subst (λ k. RunsOn IsPlain p (advance p s c.args.done) k to) n
-          (subst (λ z. RunsOn IsPlain p (advance p z c.args.done) made to) same c.in_ok-state.ensures.runs);
+      runs = subst (λ k. RunsOn p (advance p s c.args.done) k to) n
+          (subst (λ z. RunsOn p (advance p z c.args.done) made to) same c.in_ok-state.ensures.runs);
     }

@@ -1,7 +1,6 @@
 use Rattle.std.proofs.Common.{refl, subst, sym, IfOk}
-use Rattle.ick_code.specs.meaning.Move.{ask, advance}
+use Rattle.ick_outcomes.specs.Programs.{ask, advance, IsPlain, RunsOn}
 use Rattle.ick_backtrack.specs.Asked.{IsGoing}
-use Rattle.ick_backtrack.specs.Steps.{IsPlain, RunsOn}
 use Rattle.ick_chain.proofs.search.step_from.Goals as goal
 
 pub step_from-requires : goal.step_from-requires
@@ -15,5 +14,5 @@ pub returns-clause-runs : goal.returns-clause-runs
 returns-clause-runs g c =
     let seen = g.P.States.seen c.args.program.now in
     let old = seen c.args.state.now in
-    subst (λ p. IfOk c.step_from.result (λ r. RunsOn IsPlain p (advance p old.state c.args.done) r.1 (seen r.0).state))
+    subst (λ p. IfOk c.step_from.result (λ r. RunsOn p (advance p old.state c.args.done) r.1 (seen r.0).state))
     c.law.ensures c.step_from.ensures.runs

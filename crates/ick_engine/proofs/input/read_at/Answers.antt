@@ -21,7 +21,7 @@ long new old same =
     cc (length-map new array_of, length-map new is_hidden, same, length-map old is_hidden, length-map old array_of)
 
 pub returns-in_default-clause-does : goal.returns-in_default-clause-does
-returns-in_default-clause-does g c = λ home statuses returns place depth text steady.
+returns-in_default-clause-does g c = λ store_target statuses returns place depth text steady.
     let i = c.args.i.now in
     let all = c.args.rest.now.arrays.items in
     let within : i.to < length all = omega (arith, c.requires.slot, c.requires.arrays) in
@@ -30,7 +30,7 @@ returns-in_default-clause-does g c = λ home statuses returns place depth text s
     (steady, reads_nowhere (search rules) steady i text g.R.Reader.Has c.args.reader.now c.requires.operation c.requires.slot none)
 
 pub returns-in-Ok-clause-does : goal.returns-in-Ok-clause-does
-returns-in-Ok-clause-does g c = λ home statuses returns place depth text steady.
+returns-in-Ok-clause-does g c = λ store_target statuses returns place depth text steady.
     let i = c.args.i.now in
     let all = c.args.rest.now.arrays.items in
     let subs = c.args.program.now.parts.subscripts.items in
@@ -43,7 +43,7 @@ returns-in-Ok-clause-does g c = λ home statuses returns place depth text steady
     let now = c.store_at.new.arrays.items in
     let kept = c.in-Ok.ensures.parts in
     let fault = c.store_at.result in
-    rw c.stored.ensures (
+    rw c.fault_result.ensures (
       steady_by steady regs (record mid { arrays = map array_of now; hidden = map is_hidden now }) refl steady.constants
           (long now was c.store_at.ensures.hidden ∙ ap (λ p. length p.arrays) kept)
           (ap length c.store_at.ensures.hidden ∙ ap (λ p. length p.hidden) kept)
@@ -57,7 +57,7 @@ returns-in-Ok-clause-does g c = λ home statuses returns place depth text steady
     )
 
 pub returns-in-Err-clause-does : goal.returns-in-Err-clause-does
-returns-in-Err-clause-does g c = λ home statuses returns place depth text steady.
+returns-in-Err-clause-does g c = λ store_target statuses returns place depth text steady.
     let i = c.args.i.now in
     let all = c.args.rest.now.arrays.items in
     let regs = c.args.registers.now in

@@ -4,7 +4,7 @@ use Rattle.std.specs.Option.{option_to_list}
 use Rattle.ick_explorer.specs.Marked.{IsMarked}
 use Rattle.ick_explorer.specs.Standing.{StandsFrom, position_of}
 use Rattle.ick_explorer.specs.Walks.{Finds, Goes, TurnsBack}
-use Rattle.ick_explorer.specs.declared.walk.Way.TheVariants.{Down}
+use Rattle.ick_explorer.specs.declared.walk.Way.TheVariants.{Zeros}
 use Rattle.ick_explorer.proofs.Finding.{finds_first, finds_next}
 use Rattle.ick_explorer.proofs.Walking.{turned_back}
 use Rattle.ick_explorer.proofs.walk.find.Goals as goal
@@ -31,9 +31,9 @@ returns-in-Ok-Some-clause-found g c = λ finish here s.
           (λ from. subst (λ x. Finds x limit None old new path.choices path.points.items n finish) from.at_start
           (finds_first limit old new choices path.choices points path.points.items n finish
           (c.requires.none w.in-Fresh.is) c.requires.marked
-          (subst (λ x. Goes Down limit (seen x) choices points 0 new path.choices path.points.items n) w.machine-is
-          (subst (λ x. Goes Down limit (seen m) x.choices x.points.items 0 new path.choices path.points.items n)
-          w.path-is (subst (λ x. Goes Down limit (seen m) p.choices p.points.items x new path.choices
+          (subst (λ x. Goes Zeros limit (seen x) choices points 0 new path.choices path.points.items n) w.machine-is
+          (subst (λ x. Goes Zeros limit (seen m) x.choices x.points.items 0 new path.choices path.points.items n)
+          w.path-is (subst (λ x. Goes Zeros limit (seen m) p.choices p.points.items x new path.choices
           path.points.items n) w.start-is ends.goes)))
           here))
       | in-Given+in-Ok w ↦
@@ -50,9 +50,9 @@ returns-in-Ok-Some-clause-found g c = λ finish here s.
           (sym w.in-Given.is)
           (finds_next limit old (seen w.step.new.self) new choices w.turn.new.self path.choices
           points left path.points.items (start + 1) n finish turns
-          (subst (λ x. Goes Down limit (seen x) w.turn.new.self left (start + 1) new path.choices path.points.items n) w.machine-is
-          (subst (λ x. Goes Down limit (seen m) x.choices x.points.items (start + 1) new path.choices path.points.items n)
-          w.path-is (subst (λ x. Goes Down limit (seen m) p.choices p.points.items x new path.choices
+          (subst (λ x. Goes Zeros limit (seen x) w.turn.new.self left (start + 1) new path.choices path.points.items n) w.machine-is
+          (subst (λ x. Goes Zeros limit (seen m) x.choices x.points.items (start + 1) new path.choices path.points.items n)
+          w.path-is (subst (λ x. Goes Zeros limit (seen m) p.choices p.points.items x new path.choices
           path.points.items n) w.start-is ends.goes)))
           here s)
     ]

@@ -1,6 +1,6 @@
 use Rattle.std.proofs.Common.{arith}
 use Rattle.std.proofs.lemmas.Grind.{common_steps}
-use Rattle.ick_machine.specs.Present.{present_state}
+use Rattle.ick_machine.specs.StateView.{present_state}
 use Rattle.ick_inspect.proofs.AddLaws.{same, then}
 use Rattle.ick_inspect.proofs.TextLemmas.{array_none, array_some}
 use Rattle.ick_inspect.proofs.names.append_array.Goals as goal

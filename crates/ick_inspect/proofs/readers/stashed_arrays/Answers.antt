@@ -1,7 +1,7 @@
 use Rattle.std.proofs.Common.{arith, ap, map, reverse, sym, take, ◌∙◌}
 use Rattle.std.proofs.lemmas.List.{length-map, take-map}
 use Rattle.ick_runtime.specs.View.{array_names, array_of, arrays_of}
-use Rattle.ick_machine.specs.Present.{present_state}
+use Rattle.ick_machine.specs.StateView.{present_state}
 use Rattle.ick_inspect.proofs.ReaderLemmas.{map_of-used}
 use Rattle.ick_inspect.proofs.readers.stashed_arrays.Goals as goal
 

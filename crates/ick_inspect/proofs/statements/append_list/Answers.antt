@@ -1,5 +1,5 @@
 use Rattle.std.proofs.Common.{arith, sym}
-use Rattle.ick_machine.specs.Present.{present_program}
+use Rattle.ick_machine.specs.StateView.{present_program}
 use Rattle.ick_inspect.specs.Statements.{listed_text}
 use Rattle.ick_inspect.proofs.AddLaws.{same, then}
 use Rattle.ick_inspect.proofs.TextLemmas.{list_is, list_more}

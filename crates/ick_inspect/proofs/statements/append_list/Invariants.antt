@@ -1,7 +1,7 @@
 use Rattle.std.proofs.Common.{◌≤◌, ◌+◌, ◌-◌}
 use Rattle.std.specs.Prelude.{max}
 use Rattle.std.specs.List.{flat_map, range_with_len}
-use Rattle.ick_machine.specs.Present.{present_program}
+use Rattle.ick_machine.specs.StateView.{present_program}
 use Rattle.ick_inspect.specs.Statements.{listed_text}
 use Rattle.ick_inspect.specs.Text.{Adds}
 use Rattle.ick_inspect.proofs.statements.append_list.Given as goal

@@ -2,7 +2,7 @@ use Rattle.std.proofs.Common.{ap, arith, sym}
 use Rattle.ick_code.specs.Compiled.{code_slots}
 use Rattle.ick_code.specs.Names.{slots_of}
 use Rattle.ick_inspect.specs.Summary.{variables_text}
-use Rattle.ick_machine.specs.Present.{present_program, present_state}
+use Rattle.ick_machine.specs.StateView.{present_program, present_state}
 use Rattle.ick_inspect.proofs.AddLaws.{nothing, same, then}
 use Rattle.ick_inspect.proofs.TextLemmas.{all_variables, variables_more}
 use Rattle.ick_inspect.proofs.summary.append_arrays.Goals as goal

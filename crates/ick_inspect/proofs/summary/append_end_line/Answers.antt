@@ -1,6 +1,6 @@
 use Rattle.std.proofs.Common.{sym}
 use Rattle.ick_inspect.specs.Summary.{end_text}
-use Rattle.ick_machine.specs.Present.{present_state}
+use Rattle.ick_machine.specs.StateView.{present_state}
 use Rattle.ick_inspect.proofs.AddLaws.{nothing, same, then}
 use Rattle.ick_inspect.proofs.TextLemmas.{end_faulted, end_gave_up}
 use Rattle.ick_inspect.proofs.summary.append_end_line.Goals as goal

@@ -1,7 +1,7 @@
 use Rattle.std.proofs.Common.{◌≡◌, length, ◌+◌, ◌++◌, ◌∙◌, ap, arith, refl, sym}
 use Rattle.std.specs.Prelude.{codes, decimal, filter}
 use Rattle.std.specs.List.{range_with_len}
-use Rattle.ick_machine.specs.Present.{present_program, present_state}
+use Rattle.ick_machine.specs.StateView.{present_program, present_state}
 use Rattle.ick_inspect.specs.Text.{numbers_text}
 use Rattle.ick_inspect.proofs.AddLaws.{nothing, same, then}
 use Rattle.ick_inspect.proofs.TextLemmas.{are_none, are_none-more, filter_no, filter_yes, none_left}

@@ -1,7 +1,7 @@
 use Rattle.std.proofs.Common.{◌≡◌}
 use Rattle.std.specs.Prelude.{codes, filter}
 use Rattle.std.specs.List.{range_with_len}
-use Rattle.ick_machine.specs.Present.{present_state}
+use Rattle.ick_machine.specs.StateView.{present_state}
 use Rattle.ick_inspect.specs.Text.{Adds, numbers_text}
 use Rattle.ick_inspect.proofs.TextLemmas.{are_none}
 use Rattle.ick_inspect.proofs.summary.append_numbers.Given as goal

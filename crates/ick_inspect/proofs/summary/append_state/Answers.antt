@@ -1,5 +1,5 @@
 use Rattle.std.proofs.Common.{◌∙◌, sym}
-use Rattle.ick_machine.specs.Present.{present_program, present_state}
+use Rattle.ick_machine.specs.StateView.{present_program, present_state}
 use Rattle.ick_inspect.proofs.AddLaws.{same, then}
 use Rattle.ick_inspect.proofs.TextLemmas.{state_is}
 use Rattle.ick_inspect.proofs.summary.append_state.Goals as goal

@@ -30,30 +30,30 @@ returns g c =
     let code = c.args.lowered.now.code.now in
     let lowered = c.args.lowered.now.parts in
     let w = view_in call.new.memory in
-    let ok = c.stopped.ensures.ok in
+    let ok = c.steps_of_exit.ensures.ok in
     record {
       low_within = ran.noted.low_within;
       base_same = ran.noted.base_same;
       follows = λ k m h. c.law-2.ensures.alike k _ _ m (like_moved _ _ (like_refl _ _ _)) (ran.noted.follows k m
           (c.law.ensures.alike k _ _ m (like_moved 0 0 (like_refl _ _ _)) h));
       steady = steady_by call.result code lowered w ran.stopped.remains;
-      ready = if_so c.stopped.result _ _ ok (λ k is. ready_by call.result code lowered w is.1 ran.stopped.remains);
+      ready = if_so c.steps_of_exit.result _ _ ok (λ k is. ready_by call.result code lowered w is.1 ran.stopped.remains);
       held_same = ran.held_same;
-      end_same = c.stopped.ensures.err;
-      within = if_ok c.stopped.result _ _ ok (λ k is. omega (arith, is.0));
-      moves = λ none goes enough some. if_ok c.stopped.result _ _ ok (λ k is.
-          has_moved code lowered g.R.Reader.Has c.args.reader.now call.new.reader c.args.limit call.new.memory.cursor.left
+      end_same = c.steps_of_exit.ensures.err;
+      within = if_ok c.steps_of_exit.result _ _ ok (λ k is. omega (arith, is.0));
+      moves = λ none goes enough some. if_ok c.steps_of_exit.result _ _ ok (λ k is.
+          has_moved code lowered g.R.Reader.Has c.args.reader.now call.new.reader c.args.limit call.new.memory.point.left
           c.args.answer call.new.memory.answer (view_in c.args.memory.now) w call.result _ _ _ _ ran.is_short
-          ran.has_waited ran.fewer ran.stopped.comes k c.stopped.new.end is
+          ran.has_waited ran.fewer ran.stopped.comes k c.steps_of_exit.new.end is
           (g.R.Reader.some call.new.reader) none goes enough some);
-      runs = λ none. if_ok c.stopped.result _ _ ok (λ k is. rw c.in-None.is (
-          has_made code lowered g.R.Reader.Has c.args.reader.now call.new.reader c.args.limit call.new.memory.cursor.left
+      runs = λ none. if_ok c.steps_of_exit.result _ _ ok (λ k is. rw c.in-None.is (
+          has_made code lowered g.R.Reader.Has c.args.reader.now call.new.reader c.args.limit call.new.memory.point.left
           c.args.answer call.new.memory.answer (view_in c.args.memory.now) w call.result _ _ _ _ ran.is_short
-          ran.has_waited ran.fewer ran.stopped.comes k c.stopped.new.end is none));
-      steps = λ done same one going goes enough. if_so c.stopped.result _ _ ok (λ k is. rw c.in-None.is (
-          has_stepped code lowered g.R.Reader.Has c.args.reader.now call.new.reader c.args.limit call.new.memory.cursor.left
+          ran.has_waited ran.fewer ran.stopped.comes k c.steps_of_exit.new.end is none));
+      steps = λ done same one going goes enough. if_so c.steps_of_exit.result _ _ ok (λ k is. rw c.in-None.is (
+          has_stepped code lowered g.R.Reader.Has c.args.reader.now call.new.reader c.args.limit call.new.memory.point.left
           c.args.answer call.new.memory.answer (view_in c.args.memory.now) w call.result _ _ _ _ ran.is_short
-          ran.has_waited ran.fewer ran.stopped.comes k c.stopped.new.end is goes enough done same one));
+          ran.has_waited ran.fewer ran.stopped.comes k c.steps_of_exit.new.end is goes enough done same one));
     }
 
 pub run_steps-exit-requires-clause-prints : goal.run_steps-exit-requires-clause-prints

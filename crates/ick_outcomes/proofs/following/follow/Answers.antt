@@ -1,6 +1,7 @@
 use Rattle.std.proofs.Common.{◌≡◌, ◌<◌, ◌∙◌, ap, arith, false, get_or, length, subst, vec_len}
 use Rattle.std.proofs.lemmas.Option.{IfSome_then}
-use Rattle.ick_code.specs.meaning.Move.{ask, choice}
+use Rattle.ick_code.specs.meaning.Move.{choice}
+use Rattle.ick_outcomes.specs.Programs.{ask}
 use Rattle.ick_backtrack.specs.Asked.{finish_of}
 use Rattle.ick_outcomes.proofs.AskerLaws.{EndsAt, followed_by, left-over, length-push, stepped_chosen, stepped_plain}
 use Rattle.ick_outcomes.proofs.AskerLaws.{wants-more}

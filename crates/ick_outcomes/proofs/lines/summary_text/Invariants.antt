@@ -5,6 +5,6 @@ use Rattle.ick_outcomes.proofs.lines.summary_text.Given as goal
 
 abbrev pub invariant-outcomes : goal.invariant-outcomes
 invariant-outcomes l =
-    AreLines l.exact (take l.outcome-index l.outcomes) l.text.items
+    AreLines l.exact l.silent (take l.outcome-index l.outcomes) l.text.items
     × IfSome l.last (λ o.
     AreTexts l.exact o.now l.texts.count.text.items l.texts.weight.text.items l.texts.output.items)

@@ -7,9 +7,8 @@ use Rattle.ick_outcomes.proofs.search.most_left.Goals as goal
 
 pub nodes-preserved : goal.nodes-preserved
 nodes-preserved g c = λ seen.
-    most_more seen c.args.nodes.now c.nodes.node-index c.nodes.most c.higher-most.result
-    c.node-item.result c.nodes-test.true c.node-item.is (c.nodes.invariant seen) c.higher-most.ensures.one
-    c.higher-most.ensures.other c.higher-most.ensures.either
+    most_more seen c.args.nodes.now c.nodes.node-index c.nodes.most c.max-most.result
+    c.node-item.result c.nodes-test.true c.node-item.is (c.nodes.invariant seen) c.max-most.ensures
 
 pub returns : goal.returns
 returns g c = λ seen.

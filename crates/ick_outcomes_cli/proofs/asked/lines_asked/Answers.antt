@@ -7,7 +7,7 @@ use Rattle.ick_outcomes_cli.proofs.asked.lines_asked.Goals as goal
 pub returns-in_default : goal.returns-in_default
 returns-in_default g c =
     let start = g.P.States.seen c.args.program.now c.args.first.now in
-    let p = start.program in
+    let p = start.program.statements in
     let s = start.state in
     let some = some_left c.loop-rest.rest.now _ c.is_empty.ensures c.loop-rest-test.true in
     c.loop-rest.invariant.counts_on 1
@@ -16,7 +16,7 @@ returns-in_default g c =
 pub returns-in-None : goal.returns-in-None
 returns-in-None g c =
     let start = g.P.States.seen c.args.program.now c.args.first.now in
-    let p = start.program in
+    let p = start.program.statements in
     let s = start.state in
     let some = some_left c.loop-rest.rest.now _ c.is_empty.ensures c.loop-rest-test.true in
     c.loop-rest.invariant.counts_on 1
@@ -27,7 +27,7 @@ returns-in-None g c =
 pub loop-rest-init : goal.loop-rest-init
 loop-rest-init g c =
     let start = g.P.States.seen c.args.program.now c.args.first.now in
-    let p = start.program in
+    let p = start.program.statements in
     let s = start.state in
     record {
       goes_on = goes_on_first p s c.args.limit c.args.listing.now c.new-text.result.items c.new-text.ensures.items;
@@ -39,7 +39,7 @@ loop-rest-init g c =
 pub loop-rest-preserved : goal.loop-rest-preserved
 loop-rest-preserved g c =
     let start = g.P.States.seen c.args.program.now c.args.first.now in
-    let p = start.program in
+    let p = start.program.statements in
     let s = start.state in
     let i = c.loop-rest.invariant in
     let last = c.is_last.ensures.yes c.if-not-is_last.false in
@@ -58,7 +58,7 @@ loop-rest-preserved g c =
 pub loop-rest-preserved-in_ok-extend_from_slice-in-Some-2 : goal.loop-rest-preserved-in_ok-extend_from_slice-in-Some-2
 loop-rest-preserved-in_ok-extend_from_slice-in-Some-2 g c =
     let start = g.P.States.seen c.args.program.now c.args.first.now in
-    let p = start.program in
+    let p = start.program.statements in
     let s = start.state in
     let i = c.loop-rest.invariant in
     let other = c.is_last.ensures.no c.if-not-is_last.true in
@@ -83,7 +83,7 @@ loop-rest-preserved-in_ok-extend_from_slice-in-Some-2 g c =
 pub returns : goal.returns
 returns g c =
     let start = g.P.States.seen c.args.program.now c.args.first.now in
-    let p = start.program in
+    let p = start.program.statements in
     let s = start.state in
     explains_all p s c.args.limit c.args.listing.now c.loop-rest.rest.now c.loop-rest.text.items
     (none_left c.loop-rest.rest.now _ c.is_empty.ensures c.loop-rest-test.false) c.loop-rest.invariant.goes_on

@@ -9,6 +9,7 @@ use Rattle.ick_outcomes_cli.specs.declared.outcomes_end.OutcomesEnd.TheVariants.
 use Rattle.ick_outcomes_cli.proofs.Giving.{StopsUnlisted, gives_so, gives_unread, leaves_all_as, no_line}
 use Rattle.ick_outcomes_cli.proofs.Giving.{program_listing, program_outcomes, stop_read}
 use Rattle.ick_outcomes_cli.proofs.Leaving.{not_both, where_given}
+use Rattle.ick_chain.proofs.Progressing.{shows_none}
 use Rattle.ick_outcomes_cli.proofs.dispatch.answer_code.Goals as goal
 
 pub returns-in-None-clause-leaves : goal.returns-in-None-clause-leaves
@@ -68,3 +69,9 @@ returns-clause-left g c = λ reader_told. where_unread _ c.in-Err.job_end _ (c.i
 -- a listing is opened
 pub returns-in-Ok-clause-listings_kept : goal.returns-in-Ok-clause-listings_kept
 returns-in-Ok-clause-listings_kept g c = λ none. absurd (not_both _ _ (given_some _ _ _ c.in-Some.is) none)
+
+pub returns-in-Ok-clause-shown : goal.returns-in-Ok-clause-shown
+returns-in-Ok-clause-shown g c = shows_none c.args.errors.now
+
+pub returns-clause-shown : goal.returns-clause-shown
+returns-clause-shown g c = shows_none c.args.errors.now

@@ -6,6 +6,7 @@ use Rattle.ick_outcomes_cli.specs.Tool.{MayStop, Stops}
 use Rattle.ick_outcomes_cli.proofs.Giving.{gives_so, leaves_all_as, read_with_file, read_without_file}
 use Rattle.ick_outcomes_cli.proofs.Giving.{stop_with_file, stop_without_file, unread_with_file}
 use Rattle.ick_outcomes_cli.proofs.Leaving.{where_given, where_given_other, with_file, without_file}
+use Rattle.ick_chain.proofs.Progressing.{shows_none}
 use Rattle.ick_outcomes_cli.proofs.dispatch.answer_job.Goals as goal
 
 -- with a file
@@ -79,3 +80,9 @@ returns-in-Ok-clause-source_first g c = λ none more. absurd (no_file _ _ (given
 
 pub returns-in-Ok-read_front-clause-source_first : goal.returns-in-Ok-read_front-clause-source_first
 returns-in-Ok-read_front-clause-source_first g c = λ none more. absurd (omega (arith, c.in-Ok-read_front.ensures.count))
+
+pub returns-in-Err-clause-shown : goal.returns-in-Err-clause-shown
+returns-in-Err-clause-shown g c = shows_none c.args.errors.now
+
+pub returns-in-Err-read_front-clause-shown : goal.returns-in-Err-read_front-clause-shown
+returns-in-Err-read_front-clause-shown g c = shows_none c.args.errors.now

@@ -5,6 +5,7 @@ use Rattle.ick_outcomes_cli.specs.Tool.{Stops}
 use Rattle.ick_outcomes_cli.proofs.Giving.{gives_refused, gives_so, leaves_nothing, leaves_refused, source_compiled}
 use Rattle.ick_outcomes_cli.proofs.Giving.{StopsUnlisted, stop_compiled}
 use Rattle.ick_outcomes_cli.proofs.Leaving.{compiled_left, refused_left, where_given_other}
+use Rattle.ick_chain.proofs.Progressing.{shows_none}
 use Rattle.ick_outcomes_cli.proofs.dispatch.answer_source.Goals as goal
 
 pub returns-in-Err-clause-leaves : goal.returns-in-Err-clause-leaves
@@ -42,3 +43,9 @@ returns-in-Ok-compile-clause-left g c = λ reader_told.
     (λ h. compiled_left c.args.source.now (g.R.ByteSource.left c.args.reader.now)
     (g.R.ByteSource.left c.answer_code.new.reader) (trees_of c.in-Ok.program) c.in-Ok.ensures.compiles h)
     (c.answer_code.ensures.left reader_told)
+
+pub returns-in-Err-clause-shown : goal.returns-in-Err-clause-shown
+returns-in-Err-clause-shown g c = shows_none c.args.errors.now
+
+pub returns-clause-shown : goal.returns-clause-shown
+returns-clause-shown g c = shows_none c.args.errors.now

@@ -5,15 +5,16 @@ use Rattle.ick_outcomes_cli.specs.Tool.{MayStop, both, both_text, one}
 use Rattle.ick_outcomes_cli.specs.declared.outcomes_end.OutcomesEnd.TheVariants.{By}
 use Rattle.ick_outcomes_cli.proofs.Giving.{gives_refusal, gives_so, leaves_usage, no_line}
 use Rattle.ick_outcomes_cli.proofs.Leaving.{where_given, where_given_other}
+use Rattle.ick_chain.proofs.Progressing.{shows_none}
 use Rattle.ick_outcomes_cli.proofs.dispatch.perform.Goals as goal
 
 -- both are asked for
 pub returns-then-asks_both-clause-leaves : goal.returns-then-asks_both-clause-leaves
-returns-then-asks_both-clause-leaves g c = leaves_usage both_text c.refuse_both.result _ _ _ c.refuse_both.ensures
+returns-then-asks_both-clause-leaves g c = leaves_usage (both_text (wanted c.args.job.now)) c.refuse_both.result _ _ _ c.refuse_both.ensures
 
 pub returns-then-asks_both-clause-gives : goal.returns-then-asks_both-clause-gives
 returns-then-asks_both-clause-gives g c = λ files_told listings_told reader_told writer_told.
-    gives_refusal no_line _ 64 both_text c.refuse_both.result _ c.refuse_both.ensures
+    gives_refusal no_line _ 64 (both_text (wanted c.args.job.now)) c.refuse_both.result _ c.refuse_both.ensures
     (both (sym c.asks_both.ensures ∙ c.if-asks_both.true))
 
 pub returns-then-asks_both-clause-left : goal.returns-then-asks_both-clause-left
@@ -36,3 +37,6 @@ returns-clause-left g c = λ files_told reader_told.
 pub returns-clause-both_kept : goal.returns-clause-both_kept
 returns-clause-both_kept g c = λ yes.
     let no : true ≡ false = sym yes ∙ (sym c.asks_both.ensures ∙ c.if-asks_both.false) in absurd (cc)
+
+pub returns-then-asks_both-clause-shown : goal.returns-then-asks_both-clause-shown
+returns-then-asks_both-clause-shown g c = shows_none c.args.errors.now

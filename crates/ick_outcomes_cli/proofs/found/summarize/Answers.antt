@@ -10,11 +10,15 @@ pub returns-clause-summary : goal.returns-clause-summary
 returns-clause-summary c =
     subst (λ (x : Configuration). IfOk c.outcomes.result (λ outcomes. IsSummary x.program x.state c.args.limit
     (rows_of outcomes.items)))
-    (configuration_is c.in_ok-runs.runs.lowered.code.now c.args.code.now c.in_ok-runs.runs.input.now c.args.input.now _
-    c.in_ok-first.ensures.first c.in_ok-runs.ensures.code c.in_ok-runs.ensures.input) c.outcomes.ensures.summary
+    (configuration_is c.in_ok-runs.runs.lowered.code.now c.args.code.now c.in_ok-runs.runs.input.now c.args.input.now
+    c.in_ok-runs.runs.silent c.args.question.ends _ c.in_ok-first.ensures.first c.in_ok-runs.ensures.code
+    c.in_ok-runs.ensures.input c.in_ok-runs.ensures.silent)
+    c.outcomes.ensures.summary
 
 pub returns-clause-more : goal.returns-clause-more
 returns-clause-more c = λ refused.
-    subst (λ (x : Configuration). HasMoreRuns x.program x.state c.args.limit c.args.most)
-    (configuration_is c.in_ok-runs.runs.lowered.code.now c.args.code.now c.in_ok-runs.runs.input.now c.args.input.now _
-    c.in_ok-first.ensures.first c.in_ok-runs.ensures.code c.in_ok-runs.ensures.input) (c.outcomes.ensures.more refused)
+    subst (λ (x : Configuration). HasMoreRuns x.program x.state c.args.limit c.args.question.most)
+    (configuration_is c.in_ok-runs.runs.lowered.code.now c.args.code.now c.in_ok-runs.runs.input.now c.args.input.now
+    c.in_ok-runs.runs.silent c.args.question.ends _ c.in_ok-first.ensures.first c.in_ok-runs.ensures.code
+    c.in_ok-runs.ensures.input c.in_ok-runs.ensures.silent)
+    (c.outcomes.ensures.more refused)

@@ -4,14 +4,14 @@ use Rattle.ick_source.specs.BodyBytes.{IsBodyIn}
 use Rattle.ick_source.specs.Position.{characters}
 use Rattle.ick_syntax.specs.BodyTree.{BodyTree, body_tree_of}
 use Rattle.ick_places.specs.Bodies.{body_marks}
-use Rattle.ick_places.specs.Statements.{AreBodyMarks, whole}
+use Rattle.ick_places.specs.Statements.{AreBodyMarks, is_recognised, whole}
 use Rattle.ick_places.proofs.StatementLemmas.{marks_none, marks_some}
 use Rattle.ick_places.proofs.statement.body_marks_of.Goals as goal
 
 pub returns-then-not-recognises : goal.returns-then-not-recognises
 returns-then-not-recognises c =
     let a = c.args in
-    let body = body_tree_of a.body.now in
+    let body = is_recognised (body_tree_of a.body.now) in
     IfOk-weaker c.whole_mark.result (λ marks. marks.items ≡ whole a.whole.from a.whole.to ∷ [])
     (λ marks. AreBodyMarks a.source.now a.whole.from a.whole.to a.begin body marks.items)
     (λ marks e. marks_none a.source.now a.whole.from a.whole.to a.begin body marks.items
@@ -20,7 +20,7 @@ returns-then-not-recognises c =
 pub returns : goal.returns
 returns c =
     let a = c.args in
-    let body = body_tree_of a.body.now in
+    let body = is_recognised (body_tree_of a.body.now) in
     IfOk-weaker c.marks_of.result
     (λ marks. (to : ℕ) (b : BodyTree) → IsBodyIn a.source.now a.begin to b →
     marks.items ≡ body_marks a.source.now (characters (drop a.begin a.source.now)))

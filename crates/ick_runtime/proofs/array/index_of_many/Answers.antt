@@ -1,13 +1,8 @@
-use Rattle.std.proofs.Common.{ap, arith, drop, get_or, length, List, option_and_then, refl, rules, Some, sym, ℕ, ◌+◌, ◌<◌, ◌∙◌, ◌≡◌}
-use Rattle.ick_runtime.proofs.Names.{array_of, element_offset, get_or-map, reg, values_of, Wide}
-use Rattle.ick_runtime.proofs.OffsetLemmas.{beyond, count_is, inside, is_inside, is_outside, none_at, place_is, walk, walk_done, walk_next}
+use Rattle.std.proofs.Common.{ap, arith, drop, get_or, length, option_and_then, refl, rules, Some, sym, ◌+◌, ◌∙◌, ◌≡◌}
+use Rattle.ick_runtime.proofs.Names.{array_of, element_offset, reg, values_of, Wide}
+use Rattle.ick_runtime.proofs.OffsetLemmas.{beyond, count_is, inside, is_inside, is_outside, none_at, place_is, value_at, walk, walk_done, walk_next}
 use Rattle.ick_runtime.proofs.array.index_of_many.Goals.{After-loop-at}
 use Rattle.ick_runtime.proofs.array.index_of_many.Goals as goal
-
-value_at : (subscripts regs : List ℕ) (at : ℕ) → at < length subscripts →
-    Wide (reg regs (get_or subscripts at 0))
-    ≡ get_or (values_of subscripts regs) at (Wide (reg regs (get_or subscripts at 0)))
-value_at subscripts regs at low = search (rules, get_or-map)
 
 pub returns-then-len-order-clause-index : goal.returns-then-len-order-clause-index
 returns-then-len-order-clause-index c = search (rules, count_is, none_at)
@@ -28,13 +23,13 @@ returns-in_err-offset-clause-index c =
     (value_at c.args.order.now c.args.registers.now at c.loop-at-test.true) refl ∙ c.loop-at.invariant.walked)
     ∙ place_is a subs
 
-pub returns-then-offset-ge-FAR-clause-index : goal.returns-then-offset-ge-FAR-clause-index
-returns-then-offset-ge-FAR-clause-index c =
+pub returns-then-offset-ge-OFFSET_END-clause-index : goal.returns-then-offset-ge-OFFSET_END-clause-index
+returns-then-offset-ge-OFFSET_END-clause-index c =
     let a = array_of c.args.array.now in
     let subs = values_of c.args.order.now c.args.registers.now in
     let at = c.loop-at.at in
     beyond c.loop-at.offset (drop at a.dimensions) (drop at subs) (length a.elements)
-    (omega (arith, c.if-offset-ge-FAR.true, c.args.array.now.few))
+    (omega (arith, c.if-offset-ge-OFFSET_END.true, c.args.array.now.few))
     ∙ ap (inside (length a.elements)) c.loop-at.invariant.walked
     ∙ place_is a subs
 

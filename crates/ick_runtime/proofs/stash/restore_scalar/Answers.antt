@@ -23,12 +23,12 @@ module _ (g : Over) (c : After-note g) (k : ℕ) (v m : View) (registers : v.reg
       (c.law.ensures.alike k v _ m (restored_back _ _ c.args.slot number c.args.registers.now after v stashes registers back
       (like_scalars 0 0 v _ (taken_like number c.args.slot _ _ _ same at)).parts) h)
 
-pub returns-then-home-slot-clause-notes : goal.returns-then-home-slot-clause-notes
-returns-then-home-slot-clause-notes g c = λ k v m registers same h.
-    noted g (goal.at.returns-then-home-slot-clause-notes g c).After-note k v m registers same h _
+pub returns-then-store_target-slot-clause-notes : goal.returns-then-store_target-slot-clause-notes
+returns-then-store_target-slot-clause-notes g c = λ k v m registers same h.
+    noted g (goal.at.returns-then-store_target-slot-clause-notes g c).After-note k v m registers same h _
     (put_back c.args.registers.now c.args.slot c.in-Some.number)
 
-pub returns-else-home-slot-clause-notes : goal.returns-else-home-slot-clause-notes
-returns-else-home-slot-clause-notes g c = λ k v m registers same h.
-    noted g (goal.at.returns-else-home-slot-clause-notes g c).After-note k v m registers same h _
+pub returns-else-store_target-slot-clause-notes : goal.returns-else-store_target-slot-clause-notes
+returns-else-store_target-slot-clause-notes g c = λ k v m registers same h.
+    noted g (goal.at.returns-else-store_target-slot-clause-notes g c).After-note k v m registers same h _
     (set-get_or c.args.registers.now c.args.slot 0)

@@ -1,6 +1,6 @@
 use Rattle.std.proofs.Common.{length, ◌∙◌, sym}
 use Rattle.ick_code.specs.Compiled.{code_program}
-use Rattle.ick_machine.specs.Present.{present_state}
+use Rattle.ick_machine.specs.StateView.{present_state}
 use Rattle.ick_inspect.proofs.AddLaws.{nothing, same, then}
 use Rattle.ick_session.proofs.ChangeLaws.{abstained_is, none_newly}
 use Rattle.ick_session.proofs.changes.append_abstained.Goals as goal

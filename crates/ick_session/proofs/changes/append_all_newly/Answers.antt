@@ -1,5 +1,5 @@
 use Rattle.std.proofs.Common.{sym}
-use Rattle.ick_machine.specs.Present.{present_state}
+use Rattle.ick_machine.specs.StateView.{present_state}
 use Rattle.ick_session.specs.Changes.{newly_line}
 use Rattle.ick_inspect.proofs.AddLaws.{nothing, numbered_more, same, then}
 use Rattle.ick_session.proofs.changes.append_all_newly.Goals as goal

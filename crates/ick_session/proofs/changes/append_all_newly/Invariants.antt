@@ -1,4 +1,4 @@
-use Rattle.ick_machine.specs.Present.{present_state}
+use Rattle.ick_machine.specs.StateView.{present_state}
 use Rattle.ick_inspect.specs.Text.{Adds}
 use Rattle.ick_session.specs.Changes.{newly_text}
 use Rattle.ick_session.proofs.changes.append_all_newly.Given as goal

@@ -1,7 +1,7 @@
 use Rattle.std.proofs.Common.{◌∙◌, ap, sym}
 use Rattle.std.specs.List.{list_any}
 use Rattle.ick_code.specs.Compiled.{code_slots}
-use Rattle.ick_machine.specs.Present.{present_state}
+use Rattle.ick_machine.specs.StateView.{present_state}
 use Rattle.ick_inspect.proofs.AddLaws.{same, then}
 use Rattle.ick_session.specs.Changes.{names_text}
 use Rattle.ick_session.specs.Targets.{is_of_abstaining}

@@ -1,5 +1,5 @@
 use Rattle.std.proofs.Common.{◌≡◌, false, ◌∙◌}
-use Rattle.ick_machine.specs.Present.{present_state}
+use Rattle.ick_machine.specs.StateView.{present_state}
 use Rattle.ick_inspect.proofs.AddLaws.{same, then}
 use Rattle.ick_session.proofs.ChangeLaws.{newly_is}
 use Rattle.ick_session.proofs.changes.append_newly.Goals as goal

@@ -1,4 +1,4 @@
-use Rattle.ick_machine.specs.Present.{present_state}
+use Rattle.ick_machine.specs.StateView.{present_state}
 use Rattle.ick_inspect.proofs.AddLaws.{nothing, same, then}
 use Rattle.ick_session.proofs.ChangeLaws.{none_returned, returned_is}
 use Rattle.ick_session.proofs.changes.append_returned.Goals as goal

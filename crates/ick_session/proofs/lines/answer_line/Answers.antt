@@ -1,7 +1,8 @@
-use Rattle.std.proofs.Common.{◌++◌, ◌∙◌, [], ap, Some}
+use Rattle.std.proofs.Common.{◌++◌, ◌∙◌, [], ap, Some, subst}
+use Rattle.ick_inspect.specs.Text.{Adds}
 use Rattle.ick_session.specs.Commands.{order_of, verb_in}
-use Rattle.ick_session.specs.Lines.{answered, no_command, quits, unknown_text, unread_text}
-use Rattle.ick_session.specs.Stepper.{settings, seen}
+use Rattle.ick_session.specs.Lines.{answered, no_command, quits, short_text, unknown_text, unread_text}
+use Rattle.ick_session.specs.Session.{settings, seen}
 use Rattle.ick_session.proofs.AnswerLaws.{blank_is, line_refused, no_order, none_left, not_quit, order_is, unknown_is}
 use Rattle.ick_session.proofs.lines.answer_line.Goals as goal
 
@@ -49,8 +50,9 @@ pub returns-in-Err-clause-answers : goal.returns-in-Err-clause-answers
 returns-in-Err-clause-answers c =
     let line = c.args.line.now in
     let is = order_is line c.read_command.result c.in-Some.command c.read_command.ensures c.in-Some.is in
-    line_refused (settings c.args.stepper.now) (settings c.answer.new.self) c.args.positions.now
-    (seen c.args.stepper.now) (seen c.answer.new.self) line (order_of c.in-Some.command) c.in-Err.error
+    line_refused (settings c.args.session.now) (settings c.answer.new.self) c.args.positions.now
+    (seen c.args.session.now) (seen c.answer.new.self) line (order_of c.in-Some.command) c.in-Err.error
     c.clear-in-Err.new.self c.append_error.new.out is (not_quit c.in-Some.command c.in_default-command.not-Quit)
-    c.answer.ensures.few c.in-Err.ensures.errors (λ some. (c.in-Err.ensures.shows some).1) c.in-Err.ensures.short.0
-    c.in-Err.ensures.short.1 c.append_error.ensures.full c.append_error.ensures.short c.clear-in-Err.ensures.empty
+    c.answer.ensures.few c.in-Err.ensures.errors c.in-Err.ensures.short.0
+    c.in-Err.ensures.short.1 c.append_error.ensures.full (λ e. subst (λ b. Adds c.clear-in-Err.new.self c.append_error.new.out
+    (short_text b (seen c.answer.new.self))) c.moves.ensures (c.append_error.ensures.short e)) c.clear-in-Err.ensures.empty

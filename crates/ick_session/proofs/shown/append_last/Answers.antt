@@ -1,6 +1,6 @@
 use Rattle.std.proofs.Common.{◌++◌, ◌∙◌, ap, codes}
 use Rattle.std.specs.Prelude.{decimal}
-use Rattle.ick_machine.specs.Present.{present_program}
+use Rattle.ick_machine.specs.StateView.{present_program}
 use Rattle.ick_inspect.proofs.AddLaws.{same, then}
 use Rattle.ick_session.proofs.shown.append_last.Goals as goal
 

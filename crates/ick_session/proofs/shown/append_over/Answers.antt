@@ -1,7 +1,7 @@
 use Rattle.std.proofs.Common.{ap, sym}
 use Rattle.ick_backtrack.specs.Asked.{finish_of}
 use Rattle.ick_backtrack.specs.declared.asking.End.{End}
-use Rattle.ick_machine.specs.Present.{present_program, present_state}
+use Rattle.ick_machine.specs.StateView.{present_program, present_state}
 use Rattle.ick_session.specs.Shown.{over_text}
 use Rattle.ick_inspect.proofs.AddLaws.{same, then}
 use Rattle.ick_session.proofs.shown.append_over.Goals as goal

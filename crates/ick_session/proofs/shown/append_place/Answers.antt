@@ -1,5 +1,5 @@
 use Rattle.std.proofs.Common.{ℕ, ap, sym}
-use Rattle.ick_machine.specs.Present.{present_program}
+use Rattle.ick_machine.specs.StateView.{present_program}
 use Rattle.ick_session.specs.Shown.{met_text}
 use Rattle.ick_inspect.proofs.AddLaws.{same, then}
 use Rattle.ick_session.proofs.shown.append_place.Goals as goal

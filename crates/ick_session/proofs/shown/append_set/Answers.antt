@@ -1,4 +1,4 @@
-use Rattle.ick_machine.specs.Present.{present_program}
+use Rattle.ick_machine.specs.StateView.{present_program}
 use Rattle.ick_inspect.proofs.AddLaws.{then}
 use Rattle.ick_session.proofs.shown.append_set.Goals as goal
 

@@ -3,7 +3,7 @@ use Rattle.std.specs.List.{list_any}
 use Rattle.ick_code.specs.Compiled.{IsCompiled}
 use Rattle.ick_code.specs.meaning.Move.{advance}
 use Rattle.ick_code.specs.meaning.State.{statement_at}
-use Rattle.ick_machine.specs.Present.{present_state}
+use Rattle.ick_machine.specs.StateView.{present_state}
 use Rattle.ick_machine.specs.Seen.{trailed_machine}
 use Rattle.ick_session.specs.Changes.{passed_text}
 use Rattle.ick_session.specs.Targets.{is_of_abstaining, ops_at}

@@ -1,7 +1,7 @@
 use Rattle.std.proofs.Common.{◌∙◌, ap, sym}
-use Rattle.ick_stages.specs.Stages.{AreWhole, no_line}
-use Rattle.ick_stages_cli.specs.Tool.{IsCodeAnswer, is_there, no_statement, no_such}
-use Rattle.ick_stages_cli.proofs.Giving.{gives_refusal, gives_written, leaves_usage, leaves_written}
+use Rattle.ick_stages.specs.Stages.{AreWhole, HasStages, no_line}
+use Rattle.ick_stages_cli.specs.Tool.{IsCodeAnswer, is_there, no_statement, no_such, stages}
+use Rattle.ick_stages_cli.proofs.Giving.{gives_refusal, gives_lines, leaves_usage, leaves_written}
 use Rattle.ick_stages_cli.proofs.dispatch.answer_code.Goals as goal
 
 pub returns-then-not-has_statement-clause-leaves : goal.returns-then-not-has_statement-clause-leaves
@@ -22,8 +22,8 @@ returns-clause-leaves g c =
 
 pub returns-clause-gives : goal.returns-clause-gives
 returns-clause-gives g c = λ told.
-    gives_written c.args.asked.now c.args.source.now c.args.code.now _ _ c.write_stages-written.result c.end_of.result
-    c.end_of.ensures
-    (ap (is_there c.args.asked.now.only) (sym c.count.ensures)
-    ∙ (sym c.has_statement.ensures ∙ c.if-not-has_statement.false))
+    gives_lines _ (HasStages c.args.code.now c.args.source.now c.args.asked.now) _ _ _ c.write_stages-written.result
+    c.end_of.result c.end_of.ensures
+    (λ text h. stages text (ap (is_there c.args.asked.now.only) (sym c.count.ensures)
+    ∙ (sym c.has_statement.ensures ∙ c.if-not-has_statement.false)) h)
     (c.write_stages-written.ensures.written told)

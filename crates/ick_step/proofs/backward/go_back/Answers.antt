@@ -1,6 +1,6 @@
 use Rattle.std.proofs.Common.{sym, ◌∙◌, subst}
 use Rattle.ick_step.specs.History.{IsHistory}
-use Rattle.ick_step.specs.Session.{start_of}
+use Rattle.ick_step.specs.Seen.{start_of}
 use Rattle.ick_step.proofs.HistoryLaws.{history-take, history-same}
 use Rattle.ick_step.proofs.backward.go_back.Goals as goal
 

@@ -1,5 +1,5 @@
 use Rattle.std.proofs.Common.{None}
-use Rattle.ick_step.specs.Session.{start_of}
+use Rattle.ick_step.specs.Seen.{start_of}
 use Rattle.ick_step.proofs.MarkLaws.{answered_at}
 use Rattle.ick_step.proofs.backward.replay.Goals as goal
 

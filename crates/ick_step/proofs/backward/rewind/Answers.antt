@@ -1,6 +1,6 @@
 use Rattle.std.proofs.Common.{◌*◌, take, sym, ◌∙◌, subst, arith}
 use Rattle.std.proofs.lemmas.List.{length-take-le}
-use Rattle.ick_step.specs.Session.{IsKept}
+use Rattle.ick_step.specs.Seen.{IsKept}
 use Rattle.ick_step.proofs.MarkLaws.{kept_back}
 use Rattle.ick_step.proofs.backward.rewind.Goals as goal
 

@@ -1,5 +1,5 @@
 use Rattle.std.proofs.Common.{◌≡◌, ◌≤◌, ◌+◌, length, take}
-use Rattle.ick_step.specs.Session.{IsKept, start_of}
+use Rattle.ick_step.specs.Seen.{IsKept, start_of}
 use Rattle.ick_step.proofs.backward.rewind.Given as goal
 
 abbrev pub invariant-down : goal.invariant-down

@@ -1,5 +1,5 @@
 use Rattle.std.proofs.Common.{◌+◌, ap, ◌∙◌, arith}
-use Rattle.ick_step.specs.Session.{seen_at, later}
+use Rattle.ick_step.specs.Seen.{seen_at, later}
 use Rattle.ick_step.proofs.MarkLaws.{later-later}
 use Rattle.ick_step.proofs.Results.{at_err}
 use Rattle.ick_step.proofs.forward.go_on.Goals as goal

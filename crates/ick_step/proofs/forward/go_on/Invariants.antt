@@ -1,5 +1,5 @@
 use Rattle.std.proofs.Common.{◌≡◌, ◌≤◌, ◌-◌}
-use Rattle.ick_step.specs.Session.{IsKept, seen_at, later}
+use Rattle.ick_step.specs.Seen.{IsKept, seen_at, later}
 use Rattle.ick_step.proofs.forward.go_on.Given as goal
 
 abbrev pub invariant-steps : goal.invariant-steps

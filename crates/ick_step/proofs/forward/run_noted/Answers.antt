@@ -1,5 +1,5 @@
 use Rattle.std.proofs.Common.{◌≡◌, ap, ◌∙◌, arith, length, vec_len}
-use Rattle.ick_step.specs.Session.{seen_at}
+use Rattle.ick_step.specs.Seen.{seen_at}
 use Rattle.ick_step.proofs.MarkLaws.{later-none}
 use Rattle.ick_step.proofs.Results.{at_err, noted_run, NotedRun}
 use Rattle.ick_step.proofs.forward.run_noted.Given.{Over}

@@ -1,5 +1,5 @@
 use Rattle.std.proofs.Common.{◌≡◌, refl, ap, ◌∙◌, arith, length}
-use Rattle.ick_step.specs.Session.{seen_at, later}
+use Rattle.ick_step.specs.Seen.{seen_at, later}
 use Rattle.ick_step.proofs.MarkLaws.{later-none}
 use Rattle.ick_step.proofs.Results.{at_err, if_ok, on_err}
 use Rattle.ick_step.proofs.forward.stretch.Goals as goal

@@ -13,7 +13,7 @@ pub returns-in-Ok : goal.returns-in-Ok
 returns-in-Ok g c =
     let call = c.perform-job_end in
     let work = call.ensures in
-    serves (texts c.args.words.now) (wanted c.in-Ok.job)
+    serves c.args.terminal (texts c.args.words.now) (wanted c.in-Ok.job)
     (files_by g.F.ByteSource.told g.F.ByteSource.failed g.F.Files.named c.args.files.now call.new.files)
     (files_by g.I.ByteSource.told g.I.ByteSource.failed g.I.Files.named c.args.inputs.now call.new.inputs)
     (stream g.R.ByteSource.told g.R.ByteSource.failed g.R.ByteSource.left c.args.reader.now call.new.reader)
@@ -23,9 +23,11 @@ returns-in-Ok g c =
     (record {
       leaves = work.leaves;
       gives = work.gives;
+      left = work.left;
       reader_kept = work.reader_kept;
       files_kept = work.files_kept;
       inputs_kept = work.inputs_kept;
+      inputs_refused = work.inputs_refused;
       source_first = work.source_first;
       unplanned = work.unplanned;
     }) c.report.ensures
@@ -42,8 +44,8 @@ returns-in-Err g c =
     let writer = stream g.W.ByteSink.told g.W.ByteSink.failed g.W.ByteSink.written c.args.writer.now call.new.writer in
     let errors = stream g.E.ByteSink.told g.E.ByteSink.failed g.E.ByteSink.written c.args.errors.now
     call.new.errors in
-    refused_words step (texts c.args.words.now) c.in-Err.error (both one other) reader writer errors call.result
-    c.in-Err.ensures.law refl refl call.ensures.usage call.ensures.help call.ensures.either (call.ensures.said _ _)
+    refused_words (step c.args.terminal) (texts c.args.words.now) c.in-Err.error (both one other) reader writer errors
+    call.result c.in-Err.ensures.law refl refl call.ensures.usage call.ensures.help call.ensures.either (call.ensures.said _ _)
     (λ e. let memory = call.ensures.memory e in record {
       same_files = refl;
       same_reader = refl;
@@ -52,4 +54,5 @@ returns-in-Err g c =
       unwritten = ap g.W.ByteSink.written memory.0;
       line = memory.1;
     })
-    (λ text code owed. owed) (may_run_out (texts c.args.words.now) one other reader writer errors call.result)
+    (λ text code owed. owed)
+    (may_run_out c.args.terminal (texts c.args.words.now) one other reader writer errors call.result)

@@ -1,5 +1,5 @@
 use Rattle.std.proofs.Common.{◌≡◌, ◌++◌, true}
-use Rattle.ick_step_cli.proofs.TalkLaws.{goes_on}
+use Rattle.ick_step_cli.specs.Left.{goes_on}
 use Rattle.ick_step_cli.proofs.session.read_line.Given as goal
 
 abbrev pub invariant-loop-at : goal.invariant-loop-at

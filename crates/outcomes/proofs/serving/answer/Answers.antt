@@ -1,6 +1,8 @@
 use Rattle.std.proofs.Common.{refl, subst, sym}
 use Rattle.std.specs.Prelude.{IfErr, IfOk}
+use Rattle.ick_chain.specs.Progress.{OnlyShows}
 use Rattle.ick_job.specs.Program.{RefusesUnread, ServesArguments, both, files_by, stream}
+use Rattle.ick_outcomes_cli.specs.Behind.{Behind}
 use Rattle.ick_outcomes_cli.specs.Program.{outcomes}
 use Rattle.ick_system.specs.Arguments.{after_name}
 use Rattle.outcomes.proofs.serving.answer.Goals as goal
@@ -15,11 +17,15 @@ returns-in-Ok-clause-served g c =
     let reader = stream g.R.ByteSource.told g.R.ByteSource.failed g.R.ByteSource.left c.args.reader.now
     call.new.reader in
     let writer = stream g.W.ByteSink.told g.W.ByteSink.failed g.W.ByteSink.written c.args.writer.now call.new.writer in
-    let errors = stream g.E.ByteSink.told g.E.ByteSink.failed g.E.ByteSink.written c.args.errors.now
-    call.new.errors in
-    subst (λ r. IfOk r (λ a. ServesArguments outcomes (after_name a.items) (both one other) reader writer errors call.result))
+    subst (λ r. IfOk r (λ a. Behind
+    (OnlyShows g.E.ByteSink.told g.E.ByteSink.failed g.E.ByteSink.written g.E.Progress.shows c.args.errors.now)
+    (λ middle. ServesArguments outcomes (after_name a.items) (both one other) reader writer
+    (stream g.E.ByteSink.told g.E.ByteSink.failed g.E.ByteSink.written middle call.new.errors) call.result)))
     (sym c.in-Ok.is)
-    (subst (λ w. ServesArguments outcomes (after_name w) (both one other) reader writer errors call.result)
+    (subst (λ w. Behind
+    (OnlyShows g.E.ByteSink.told g.E.ByteSink.failed g.E.ByteSink.written g.E.Progress.shows c.args.errors.now)
+    (λ middle. ServesArguments outcomes (after_name w) (both one other) reader writer
+    (stream g.E.ByteSink.told g.E.ByteSink.failed g.E.ByteSink.written middle call.new.errors) call.result))
     c.deref.ensures.value call.ensures)
 
 -- arguments that can't be read

@@ -1,4 +1,5 @@
 use Rattle.std.proofs.Common.{refl}
+use Rattle.ick_chain.proofs.Progressing.{shows_none}
 use Rattle.ick_job.specs.Program.{both, files_by, stream}
 use Rattle.ick_job.specs.Serve.{memory_failed}
 use Rattle.ick_job.proofs.Programs.{RanOut, unserved}
@@ -31,5 +32,7 @@ returns-in-Err g c =
       unwritten = refl;
       line = c.refuse_words.ensures;
     } in
-    unserved outcomes (after_name c.args.arguments.now) (both one other) reader writer errors c.refuse_words.result out
-    (may_run_out (after_name c.args.arguments.now) one other reader writer errors c.refuse_words.result out) (as_ick _ _ (memory_failed refl))
+    let served = unserved outcomes (after_name c.args.arguments.now) (both one other) reader writer errors
+    c.refuse_words.result out (may_run_out (after_name c.args.arguments.now) one other reader writer errors c.refuse_words.result out)
+    (as_ick _ _ (memory_failed refl)) in
+    record { middle = c.args.errors.now; shown = shows_none c.args.errors.now; served = served }

@@ -17,10 +17,10 @@ returns-in-Ok-clause-served g c =
     let writer = stream g.W.ByteSink.told g.W.ByteSink.failed g.W.ByteSink.written c.args.writer.now call.new.writer in
     let errors = stream g.E.ByteSink.told g.E.ByteSink.failed g.E.ByteSink.written c.args.errors.now
     call.new.errors in
-    subst (λ r. IfOk r (λ a. ServesArguments step (after_name a.items) (both one other) reader writer errors call.result))
-    (sym c.in-Ok.is)
-    (subst (λ w. ServesArguments step (after_name w) (both one other) reader writer errors call.result)
-    c.deref.ensures.value call.ensures)
+    subst (λ r. IfOk r (λ a. ServesArguments (step c.args.terminal) (after_name a.items) (both one other) reader writer
+    errors call.result)) (sym c.in-Ok.is)
+    (subst (λ w. ServesArguments (step c.args.terminal) (after_name w) (both one other) reader writer errors
+    call.result) c.deref.ensures.value call.ensures)
 
 -- arguments that can't be read
 pub returns-in-Err-clause-unread : goal.returns-in-Err-clause-unread

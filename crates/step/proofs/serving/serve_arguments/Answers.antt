@@ -30,5 +30,7 @@ returns-in-Err g c =
       unwritten = refl;
       line = c.refuse_words.ensures;
     } in
-    unserved step (after_name c.args.arguments.now) (both one other) reader writer errors c.refuse_words.result out
-    (may_run_out (after_name c.args.arguments.now) one other reader writer errors c.refuse_words.result out) (memory_failed refl)
+    unserved (step c.args.terminal) (after_name c.args.arguments.now) (both one other) reader writer errors
+    c.refuse_words.result out
+    (may_run_out c.args.terminal (after_name c.args.arguments.now) one other reader writer errors
+    c.refuse_words.result out) (memory_failed refl)

@@ -19,7 +19,7 @@ returns-then-passes-clause-keeps c = keeps_then c.loop-gerund.invariant.keeps c.
 
 pub returns-then-passes-clause-finds : goal.returns-then-passes-clause-finds
 returns-then-passes-clause-finds c =
-    tried_found gerund_word all_gerunds _ Calculating c.args.self.now c.loop-gerund.self c.passes.new.self _ c.loop-gerund.invariant
+    tried_found _ gerund_word all_gerunds _ Calculating c.args.self.now c.loop-gerund.self c.passes.new.self _ c.loop-gerund.invariant
     (let passed = c.loop-gerund-test.true in omega arith) c.word.ensures c.if-passes.ensures.passes
 
 pub returns-then-passes-clause-same : goal.returns-then-passes-clause-same
@@ -28,6 +28,6 @@ returns-then-passes-clause-same c = same_then c.loop-gerund.invariant.same c.if-
 pub returns : goal.returns
 returns c = record {
   keeps = c.loop-gerund.invariant.keeps;
-  finds = tried_all _ _ _ _ c.args.self.now c.loop-gerund.self c.loop-gerund.invariant (let passed = c.loop-gerund-test.false in omega arith);
+  finds = tried_all _ _ _ _ _ c.args.self.now c.loop-gerund.self c.loop-gerund.invariant (let passed = c.loop-gerund-test.false in omega arith);
   same = c.loop-gerund.invariant.same;
 }

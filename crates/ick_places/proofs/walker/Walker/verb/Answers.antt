@@ -20,7 +20,7 @@ returns-then-passes-clause-keeps c = keeps_then c.loop-verb.invariant.keeps c.if
 pub returns-then-passes-clause-finds : goal.returns-then-passes-clause-finds
 unfolding verbs
 returns-then-passes-clause-finds c =
-    tried_found verb_word all_verbs _ Forget c.args.self.now c.loop-verb.self c.passes.new.self _ c.loop-verb.invariant
+    tried_found _ verb_word all_verbs _ Forget c.args.self.now c.loop-verb.self c.passes.new.self _ c.loop-verb.invariant
     (let passed = c.loop-verb-test.true in omega arith) c.word.ensures c.if-passes.ensures.passes
 
 pub returns-then-passes-clause-same : goal.returns-then-passes-clause-same
@@ -30,6 +30,6 @@ pub returns : goal.returns
 unfolding verbs
 returns c = record {
   keeps = c.loop-verb.invariant.keeps;
-  finds = tried_all _ _ _ _ c.args.self.now c.loop-verb.self c.loop-verb.invariant (let passed = c.loop-verb-test.false in omega arith);
+  finds = tried_all _ _ _ _ _ c.args.self.now c.loop-verb.self c.loop-verb.invariant (let passed = c.loop-verb-test.false in omega arith);
   same = c.loop-verb.invariant.same;
 }

@@ -3,7 +3,7 @@ use Rattle.ick_syntax.proofs.TreeLemmas.{tree_of-element}
 use Rattle.ick_source.specs.Expression.{groups, elements, indexing, subscripts, level, Sized}
 use Rattle.ick_syntax.specs.Tree.{Tree}
 use Rattle.ick_syntax.specs.Clamped.{faults_of}
-use Rattle.ick_source.specs.Cursors.{Refuses}
+use Rattle.ick_source.specs.Position.{left_at}
 use Rattle.ick_source.specs.Expression.{begins_sub}
 use Rattle.ick_source.specs.Expression.{is_array}
 use Rattle.ick_source.proofs.ExpressionReadings.{further-array, further-no}
@@ -15,7 +15,6 @@ use Rattle.ick_source.proofs.ExpressionReadings.{along-start, along-more, again_
 use Rattle.ick_source.proofs.RepeatedReadings.{repeats-start, repeats-more, repeats-shorter, repeats-ends}
 use Rattle.ick_source.proofs.GrammarShorter.{level-shortens}
 use Rattle.ick_source.proofs.cursor.Cursor.+expressions.Goals as goal
-use Rattle.ick_source.proofs.cursor.Cursor.+expressions.Goals.{operand-then-limit-gt0+in_default, operand-else-limit-gt0}
 use Rattle.ick_source.proofs.cursor.Cursor.+expressions.Goals.{subscripts-then-is_array-via-then-is_array}
 use Rattle.ick_source.proofs.cursor.Cursor.+expressions.Goals.{subscripts-then-is_array-via-else-is_array+then-not-may_begin_sub}
 
@@ -66,17 +65,14 @@ operand-returns-in-Group-clause-reads t c =
     let s = c.group.ensures.reads in
     does_operand _ (c.args.limit - 1) _ _ _ _ _ _ _ (omega arith) c.sign.ensures s.stays c.in-Group.is s
 
-pub operand-returns-clause-reads : goal.operand-returns-clause-reads
-operand-returns-clause-reads t c =
-    elim c.if-limit-gt0.branch [
-      | operand-then-limit-gt0+in_default w ↦
-          let r = subst (λ z. Refuses z c.refuse.new.self) w.self-is c.refuse.ensures in
-          let d = w.in_default in
-          does_operand _ (c.args.limit - 1) _ _ _ _ _ _ _ (omega (arith, w.if-limit-gt0.true)) w.sign.ensures r.stays refl
-          (other_operand _ _ _ _ _ _ r d.not-Spot d.not-Hash d.not-Array d.not-Group)
-      | operand-else-limit-gt0 w ↦
-          no_level _ _ _ _ _ (omega (arith, w.if-limit-gt0.false)) (subst (λ z. Refuses z c.refuse.new.self) w.self-is c.refuse.ensures)
-    ]
+pub operand-returns-in_default-clause-reads : goal.operand-returns-in_default-clause-reads
+operand-returns-in_default-clause-reads t c =
+    let d = c.in_default in
+    other_operand _ (c.args.limit - 1) _ _ _ _ _ _ _ (omega arith) c.sign.ensures
+    (λ text. ap (λ t. left_at t.now c.args.self.now.at) text) c.refuse_at.ensures d.not-Spot d.not-Hash d.not-Array d.not-Group
+
+pub operand-returns-then-limit-eq0-clause-reads : goal.operand-returns-then-limit-eq0-clause-reads
+operand-returns-then-limit-eq0-clause-reads t c = no_level _ _ _ _ _ c.if-limit-eq0.true c.refuse.ensures
 
 pub expression-returns-in_default : goal.expression-returns-in_default
 expression-returns-in_default t c =

@@ -6,8 +6,8 @@ use Rattle.ick_source.proofs.cursor.Cursor.list.Given as goal
 
 abbrev pub invariant-more : goal.invariant-more
 invariant-more g l =
-    Repeats g.P.Part.kind.grammar (separator l.separator) l.fn.self l.self
-    (Clamps (listed g.P.Part.kind.clamping) (map g.P.Part.seen l.parts.items))
+    Repeats g.P.BodyPart.kind.grammar (separator l.separator) l.fn.self l.self
+    (Clamps (listed g.P.BodyPart.kind.clamping) (map g.P.BodyPart.seen l.parts.items))
 
 abbrev pub decreases-more : goal.decreases-more
 decreases-more g l = length (left l.self)

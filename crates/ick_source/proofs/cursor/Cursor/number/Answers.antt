@@ -3,11 +3,12 @@ use Rattle.ick_syntax.specs.Clamped.{clamped}
 use Rattle.ick_source.specs.Cursors.{faults_by}
 use Rattle.ick_source.proofs.ClampedLemmas.{clamped-capped}
 use Rattle.ick_source.proofs.CursorLemmas.{does_find, does_refused, none_is}
-use Rattle.ick_source.proofs.Readings.{number_found, number_nothing, faults-capped}
+use Rattle.ick_source.proofs.Readings.{number_found, faults-capped}
+use Rattle.ick_source.proofs.StopLemmas.{halts_number}
 use Rattle.ick_source.proofs.cursor.Cursor.number.Goals as goal
 
 pub returns-in_default : goal.returns-in_default
-returns-in_default c = does_refused _ _ _ _ c.refuse.ensures (λ e. number_nothing _ c.in_default.ensures)
+returns-in_default c = does_refused _ _ _ _ _ _ c.refuse.ensures (λ e. halts_number _ c.in_default.ensures)
 
 pub returns : goal.returns
 returns c =

@@ -1,5 +1,0 @@
-use Rattle.ick_session.proofs.CountLaws.{equal_of}
-use Rattle.ick_session.proofs.stepper.Stepper.law.Goals as goal
-
-pub returns : goal.returns
-returns c = equal_of _ _ c.args.self.now.kept
