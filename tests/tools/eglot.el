@@ -1,4 +1,5 @@
-;; Uses ick-lsp by eglot: prints the diagnostics of each file, and then what it answers for the first one.
+;; Uses ick-lsp by eglot: prints the first line of each diagnostic of each file, and then what it answers for the first
+;; file.
 (load (expand-file-name "ick-mode.el" (getenv "EMACS_MODE")) nil t)
 (require 'package)
 (add-to-list 'package-directory-list "/usr/share/emacs/site-lisp/elpa")
@@ -37,7 +38,8 @@
     (flymake-start)
     (dolist (one (sort (flymake-diagnostics) (lambda (a b) (< (flymake-diagnostic-beg a) (flymake-diagnostic-beg b)))))
       (say (file-name-nondirectory file)
-           (format "%d %s" (line-number-at-pos (flymake-diagnostic-beg one)) (flymake-diagnostic-text one)))))
+           (format "%d %s" (line-number-at-pos (flymake-diagnostic-beg one))
+                   (car (split-string (flymake-diagnostic-text one) "\n"))))))
   (find-file (car files))
   (go-to "DO READ OUT .1")
   (say "hover" (plist-get (plist-get (ask :textDocument/hover) :contents) :value))

@@ -81,7 +81,7 @@ def try_eglot(tally):
         name = os.path.basename(one)
         wanted = [f"{name}: {line} ick: {text.strip()}" for _, line, _, text in told]
         found = [line for line in lines if line.startswith(f"{name}: ")]
-        found = [re.sub(r" \[E\d{3}\]: ", ": ", line.split(" Reading stops")[0]) for line in found]
+        found = [re.sub(r" \[E\d{3}\]: ", ": ", line) for line in found]
         tally.equal(f"the advice on {name} by eglot", sorted(found), sorted(wanted))
     answers = [line.partition(": ")[::2] for line in lines if not line.partition(":")[0].endswith(".i")]
     for (name, text), (wanted_name, wanted) in zip(answers + [("", "")] * len(ANSWERS), ANSWERS):
