@@ -1,4 +1,4 @@
--- What is shown of long work.
+-- The lines that show how far long work is.
 use Rattle.std.specs.Prelude.{◌≡◌, ◌++◌, ◌∷◌, ℕ, Bool, false, true, List, [], codes, decimal}
 use Rattle.ick_chain.specs.declared.progress.Report.{Report}
 use Rattle.ick_chain.specs.declared.progress.Report.TheVariants.{Over, Primes, States}
@@ -14,8 +14,8 @@ unfoldable pub progress_lines : List Report → List ℕ
 progress_lines [] = []
 progress_lines (report ∷ more) = progress_line report ++ progress_lines more
 
--- Nothing happened to a sink but that it was told reports: only lines of reports are written, no failure is counted, and
--- a sink that shows no reports is unchanged.
+-- Nothing happened to a sink but that it was told reports: only lines of reports are written, no failure is counted,
+-- and a sink that shows no reports is unchanged.
 pub record OnlyShows {E : Type 0} (told : Bool) (failed : E → ℕ) (written : E → List ℕ) (shows : E → Bool)
     (old new : E) : Type 0 where
   pub failed_as_before : failed new ≡ failed old

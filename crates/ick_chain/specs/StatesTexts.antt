@@ -47,8 +47,9 @@ kind_text kind at = kind ++ decimal at ++ codes " "
 abbrev pub weighed_text : (kind : List ℕ) → ℕ → (weight : List ℕ) → List ℕ
 weighed_text kind at weight = kind_text kind at ++ weight ++ codes " "
 
--- The number of a state, behind what it is: `state` if its run goes on and may end, `end` if it has ended, `never` if it
--- never ends. The last two have the weight of the runs that end in the state, or that come to it as the first of these
+-- The number of a state, behind what it is: `state` if its run goes on and may end, `end` if it has ended, `never` if
+-- it never ends. The last two have the weight of the runs that end in the state, or that come to it as their first
+-- state that never ends.
 pub data IsHead (exact : Bool) (parts at visits : ℕ) : Node → List ℕ → Type 0 where
   goes : (f : Fork) → IsHead exact parts at visits (Goes f) (kind_text (codes "state ") at)
   over : (weight : List ℕ) → IsWeight exact visits parts weight →

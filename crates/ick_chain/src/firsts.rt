@@ -58,8 +58,8 @@ fn first_node(fork: Fork, one: bool, lasts: &[usize], least: usize) -> Option<us
     Some(fork.one.to)
 }
 
-/// Returns the node that is next on the way of choices, of which some are used, and how many are
-/// used then. `None` means that the way ends, or that a choice isn't the first to an outcome.
+/// Returns the node to which the choices lead next, and how many of them are used up there. `None`
+/// means that they lead no further, or that a choice isn't the first to an outcome.
 fn next(
     nodes: &[Node],
     lasts: &[usize],

@@ -1,6 +1,7 @@
 //! Lists the outcomes of a program without a limit, as text.
 
-ghost use Rattle.std.specs.Prelude.{◌≡◌, ◌<◌, ℕ, List, Some, Ok, Err, slice_get, IfOk, IfSome, IfNone};
+ghost use Rattle.std.specs.Prelude.{◌≡◌, ◌<◌, ℕ, List, Some, Ok, Err, slice_get, IfOk, IfSome};
+ghost use Rattle.std.specs.Prelude.{IfNone};
 ghost use Rattle.ick_code.specs.meaning.State.{State as Meant};
 ghost use Rattle.ick_outcomes.specs.Programs.{Program};
 ghost use Rattle.ick_numbers.specs.Values.{natural, naturals};
@@ -146,9 +147,10 @@ pub(crate) fn unsearched(text: Result<Vec<u8>, ChainError>) -> Result<Vec<u8>, C
 /// `COUNT WEIGHT FIRST END OUTPUT` for each outcome, in the order of the choices, then a line for
 /// the runs that never end, if they weigh anything, and then `DONE`. FIRST is the first run of the
 /// outcome in the order of the listing. If the runs are infinitely many, COUNT is `*`, and FIRST is
-/// the first of the runs with the fewest choices. With `exact` each weight is whole. With `total` it returns one line with the
-/// numbers of outcomes and runs, and with the mean number of steps if they are infinitely many and
-/// none never ends. If the output of the program is left out, so is OUTPUT.
+/// the first of the runs with the fewest choices. With `exact` each weight is whole. With `total`
+/// it returns one line with the numbers of outcomes and runs, and with the mean number of steps if
+/// they are infinitely many and none never ends. If the output of the program is left out, so is
+/// OUTPUT.
 ///
 /// The other arguments and the refusals are those of `weigh`. `NotSolved` also means that something
 /// that was found failed a check. No program is known that gets that.

@@ -13,7 +13,7 @@ const STATES_APART: u64 = 100_000;
 /// After how many primes of a solver one report comes.
 const PRIMES_APART: u64 = 10;
 
-/// What is reported of long work.
+/// How far long work is.
 #[derive(Clone, Copy, Debug)]
 pub enum Report {
     /// Tells how many states a search has expanded.

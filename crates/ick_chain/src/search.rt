@@ -10,7 +10,8 @@ ghost use Rattle.ick_chain.specs.Places.{Reaches, Tells, AllTell, Extends, IsFul
 ghost use Rattle.ick_chain.specs.Places.{AllSuit, state_or};
 ghost use Rattle.ick_chain.specs.Found.{IsFound, IsNew, IsReachedIn};
 ghost use Rattle.ick_chain.specs.Progress.{OnlyShows};
-ghost use Rattle.ick_chain.specs.Reached.{AreDifferent, AreReached, HasMoreStates, LeadsTo, TakesMore};
+ghost use Rattle.ick_chain.specs.Reached.{AreDifferent, AreReached, HasMoreStates, LeadsTo};
+ghost use Rattle.ick_chain.specs.Reached.{TakesMore};
 ghost use Rattle.ick_chain.specs.Reached.{fork_steps as steps_of_fork, steps_at as steps_of_node};
 
 use crate::chain::{Edge, Fork, Node};

@@ -65,8 +65,8 @@ fn append_counted(text: &mut Vec<u8>, number: &[u8], noun: &[u8]) -> Result<(), 
     Ok(())
 }
 
-/// Returns a text that says so many outcomes and runs, as `1 OUTCOME, 2 RUNS`. `runs` is the text of
-/// a number, or `*`. The only refusal is out of memory.
+/// Returns a text that says so many outcomes and runs, as `1 OUTCOME, 2 RUNS`. `runs` is the text
+/// of a number, or `*`. The only refusal is out of memory.
 pub fn numbers_text(alloc: Global, outcomes: u64, runs: &[u8]) -> Result<Vec<u8>, NoMemory>
     ensures { IfOk result (λ text. text.items ≡ text_of_numbers outcomes runs.now) }
 {
@@ -101,8 +101,9 @@ fn endless_text(alloc: Global, outcomes: u64, mean: &[u8]) -> Result<Vec<u8>, No
     Ok(text)
 }
 
-/// Returns the line of how many outcomes and runs there are. The runs are `*` if they are infinitely many or if runs
-/// that never end weigh anything. If none of these does, a mean number of steps stands behind `*`.
+/// Returns the line of how many outcomes and runs there are. The runs are `*` if they are
+/// infinitely many or if runs that never end weigh anything. If none of these does, a mean number
+/// of steps stands behind `*`.
 pub(crate) fn total_text(
     alloc: Global,
     nodes: &[Node],

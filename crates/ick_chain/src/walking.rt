@@ -27,8 +27,8 @@ fn edge(fork: Fork, one: bool) -> Edge
     if one { fork.one } else { fork.zero }
 }
 
-/// Returns the node that is next on the way of choices, of which some are used, and how many are
-/// used then. `None` means that the way ends.
+/// Returns the node to which the choices lead next, and how many of them are used up there. `None`
+/// means that they lead no further.
 #[tactic(auto, using(crate::proofs::Walks::lead_pass, crate::proofs::Walks::lead_on))]
 fn next(nodes: &[Node], choices: &[bool], at: usize, used: usize) -> Option<(usize, usize)>
     ensures { IfSome result (λ p. (from : ℕ) → LeadAlong nodes.now from (take used choices.now) at →

@@ -22,9 +22,9 @@ pub data BothList (w : Wanted) (input : List ℕ) : Option (List ℕ) → (a b :
       → IsListed program input w.limit w.question other
       → BothList w input (Some source) (shown text) (shown other)
 
--- A job has one answer at most, unless it lists outcomes or states. Without a limit a listing shows the choices of any run of each
--- outcome, and its lines are in the order of these choices. So such a listing isn't the only one. What such listings
--- share is `OneWeight`, and that a listing under a limit is the only one is `OneListing`.
+-- A job has one answer at most, unless it lists outcomes or states. Without a limit a listing shows the choices of any
+-- run of each outcome, and its lines are in the order of these choices. So such a listing isn't the only one. What such
+-- listings share is `OneWeight`, and that a listing under a limit is the only one is `OneListing`.
 abbrev pub OneAnswer : Type 0
 OneAnswer = (w : Wanted) (input : List ℕ) (listing source : Option (List ℕ)) (a b : Answer)
     → IsOutcomesAnswer w input listing source a → IsOutcomesAnswer w input listing source b

@@ -75,8 +75,8 @@ pub record GoesOn (program : Program) (input : List ℕ) (limit : ℕ) : Type 0 
 abbrev pub HasLimit : List Row → Type 0
 HasLimit rows = (r : Row) × Contains rows r × (r.end ≡ codes "LIMIT")
 
--- The text lists the outcomes of a program over an input without a limit. They are found by all states, or they are those
--- under the usual limit, before which each run ends.
+-- The text lists the outcomes of a program over an input without a limit. They are found by all states, or they are
+-- those under the usual limit, before which each run ends.
 pub data IsEveryOutcome (program : Program) (input : List ℕ) (q : Question) (text : List ℕ) : Type 0 where
   by_states : IsExactListing (asked_of program q) (first_state program input) q.exact q.total text
       → IsEveryOutcome program input q text

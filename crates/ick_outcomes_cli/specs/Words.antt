@@ -36,7 +36,9 @@ abbrev pub outcomes_app : App
 outcomes_app = record {
   top = record (new_shape (codes "ick-outcomes")) {
     no_binary_name = true;
-    rules = bug_rule ∷ limit_rule ∷ most_rule ∷ memory_rule ∷ exact_rule ∷ total_rule ∷ ends_rule ∷ states_rule ∷ asked_rule ∷ file_rule ∷ [];
+    rules =
+        bug_rule ∷ limit_rule ∷ most_rule ∷ memory_rule ∷ exact_rule ∷ total_rule ∷ ends_rule ∷ states_rule ∷ asked_rule
+        ∷ file_rule ∷ [];
   };
   subs = [];
 }

@@ -114,8 +114,9 @@ fn both_line(alloc: Global, job: &Job<'_>) -> Result<Vec<u8>, NoMemory>
     Ok(text)
 }
 
-/// Does a job that doesn't ask for both. The source is in the file that the job names, and the reader
-/// has the input. If the job names no file, the reader has the source, and the input is empty.
+/// Does a job that doesn't ask for both. The source is in the file that the job names, and the
+/// reader has the input. If the job names no file, the reader has the source, and the input is
+/// empty.
 fn answer_job<F: Files, L: Files, R: ByteSource, W: ByteSink, E: Progress>(
     alloc: Global,
     job: &Job<'_>,

@@ -1,6 +1,7 @@
 //! The outcomes of code over an input, without a limit.
 
-ghost use Rattle.std.specs.Prelude.{◌≡◌, ◌≢◌, ℕ, List, None as none, codes, false, true, IfErr, IfOk};
+ghost use Rattle.std.specs.Prelude.{◌≡◌, ◌≢◌, ℕ, List, None as none, codes, false, true, IfErr};
+ghost use Rattle.std.specs.Prelude.{IfOk};
 ghost use Rattle.ick_code.specs.Compiled.{code_program};
 ghost use Rattle.ick_code.specs.meaning.Move.{first_state};
 ghost use Rattle.ick_backtrack.specs.Machine.{Program};

@@ -26,8 +26,8 @@ pub enum Found {
     Outcomes(Vec<u8>),
     /// More states would have to be kept than the question allows.
     TooManyStates,
-    /// The states were not searched to the end, and runs go on beyond the usual limit. The line says
-    /// why.
+    /// The states were not searched to the end, and runs go on beyond the usual limit. The line
+    /// says why.
     Unfinished(Vec<u8>),
 }
 

@@ -4,7 +4,8 @@ use Rattle.ick_places.specs.declared.body.Member.{Member}
 use Rattle.ick_places.specs.declared.body.Member.TheVariants as members
 use Rattle.ick_places.specs.declared.mark.Mark.{Mark}
 use Rattle.ick_places.specs.declared.mark.Part.{Part}
-use Rattle.ick_places.specs.declared.mark.Part.TheVariants.{Variable, Mesh, Element, Listed, Gerund, Action, Name, Label}
+use Rattle.ick_places.specs.declared.mark.Part.TheVariants.{Variable, Mesh, Element, Listed, Gerund, Action, Name}
+use Rattle.ick_places.specs.declared.mark.Part.TheVariants.{Label}
 use Rattle.ick_places.specs.Expressions.{level_marks, indexing_marks}
 use Rattle.ick_places.specs.Marks.{mark, past, repeated_marks}
 use Rattle.ick_source.specs.declared.lead.Lead.{Lead}
@@ -121,7 +122,8 @@ call_marks text from = mark text Label from (past labels from) ∷ mark text Act
 
 -- a label, or gerunds, of a body that begins at `from`
 abbrev pub switch_marks : (text : List ℕ) → (bracket : Bool) → (from here : List ℕ) → List Mark
-switch_marks text true from here = mark text Label here (past labels here) ∷ mark text Action from (past labels here) ∷ []
+switch_marks text true from here =
+    mark text Label here (past labels here) ∷ mark text Action from (past labels here) ∷ []
 switch_marks text false from here = list_marks text members.Gerund (codes "+") here
 
 -- the rest of a body that begins at `from`, after its verb

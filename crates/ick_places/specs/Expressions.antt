@@ -2,7 +2,8 @@
 use Rattle.std.specs.Prelude.{ℕ, zero, suc, List, [], ◌∷◌, ◌++◌, Option, Some, None, codes}
 use Rattle.ick_places.specs.declared.mark.Mark.{Mark}
 use Rattle.ick_places.specs.declared.mark.Part.{Part}
-use Rattle.ick_places.specs.declared.mark.Part.TheVariants.{Variable, Mesh, Element, Unary, Binary, Name, Operator, Group}
+use Rattle.ick_places.specs.declared.mark.Part.TheVariants.{Variable, Mesh, Element, Unary, Binary, Name, Operator}
+use Rattle.ick_places.specs.declared.mark.Part.TheVariants.{Group}
 use Rattle.ick_places.specs.Marks.{mark, past, repeated_marks}
 use Rattle.ick_source.specs.declared.lead.Delimiter.{Delimiter}
 use Rattle.ick_source.specs.declared.lead.Lead.{Lead}

@@ -1,8 +1,10 @@
 -- Marks of the parts of a text: their bytes, from the characters that are left at their ends.
-use Rattle.std.specs.Prelude.{ℕ, suc, nat_le, if◌then◌else◌, Bool, true, false, List, [], ◌∷◌, ◌++◌, length, Option, Some, None}
+use Rattle.std.specs.Prelude.{ℕ, suc, nat_le, if◌then◌else◌, Bool, true, false, List, [], ◌∷◌, ◌++◌, length, Option}
+use Rattle.std.specs.Prelude.{Some, None}
 use Rattle.ick_places.specs.declared.mark.Mark.{Mark}
 use Rattle.ick_places.specs.declared.mark.Part.{Part}
-use Rattle.ick_places.specs.declared.mark.Part.TheVariants.{Variable, Mesh, Element, Unary, Binary, Listed, Gerund, Action}
+use Rattle.ick_places.specs.declared.mark.Part.TheVariants.{Variable, Mesh, Element, Unary, Binary, Listed, Gerund}
+use Rattle.ick_places.specs.declared.mark.Part.TheVariants.{Action}
 use Rattle.ick_places.specs.declared.mark.Part.TheVariants.{Name, Label, Operator, Group}
 use Rattle.ick_source.specs.Grammar.{Grammar, Further, repeated}
 use Rattle.ick_source.specs.Position.{characters, past_white}

@@ -28,7 +28,8 @@ statement_marks source from to begin (Some b) = body_marks source (characters (d
 abbrev pub AreBodyMarks : (source : List ℕ) → (from to begin : ℕ) → (recognised : Bool) → List Mark → Type 0
 AreBodyMarks source from to begin false marks = marks ≡ whole from to ∷ []
 AreBodyMarks source from to begin true marks =
-    (last : ℕ) (b : BodyTree) → IsBodyIn source begin last b → marks ≡ body_marks source (characters (drop begin source))
+    (last : ℕ) (b : BodyTree) → IsBodyIn source begin last b →
+    marks ≡ body_marks source (characters (drop begin source))
 
 -- the statement's text, its head, and the marks of its body
 pub record IsPlaced (source : List ℕ) (at : ℕ) (t : StatementTree) (p : Places) : Type 0 where

@@ -84,7 +84,8 @@ impl<'a> Walker<'a> {
     /// Passes the word of a gerund, its first if it has two, and returns the gerund.
     fn first_word(&mut self) -> Option<Gerund>
         ensures keeps { Keeps self.old self.new }
-        ensures finds { Finds (among wanted.Gerund gerund_word all_gerunds) self.old self.new result }
+        ensures finds { Finds (among wanted.Gerund gerund_word all_gerunds) self.old self.new
+            result }
         ensures same { HasMarksOf self.old self.new }
     {
         for gerund in Gerund::ALL {
@@ -298,7 +299,8 @@ impl<'a> Walker<'a> {
     /// Passes a label or gerunds, of a body that begins at `from`.
     fn switch(&mut self, from: Position)
         ensures { Switches self.old self.new (switch_marks self.old.text.now
-            (is_ahead (codes "(") (left self.old)) (left_at self.old.text.now from) (left self.old)) }
+            (is_ahead (codes "(") (left self.old)) (left_at self.old.text.now from)
+            (left self.old)) }
     {
         if self.sees(b"(") {
             self.label();
@@ -353,7 +355,8 @@ impl<'a> Walker<'a> {
     /// Passes a label and NEXT, or a verb and the rest of its body.
     fn worded(&mut self)
         ensures { Walks (sequence (looks (codes "(")) worded_by) self.old self.new
-            (worded_marks self.old.text.now (is_ahead (codes "(") (left self.old)) (left self.old)) }
+            (worded_marks self.old.text.now (is_ahead (codes "(") (left self.old))
+            (left self.old)) }
     {
         if self.sees(b"(") {
             self.call();

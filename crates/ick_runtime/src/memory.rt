@@ -47,7 +47,7 @@ pub struct Memory {
     /// has 101. A statement that is certain to be done may have 126, which says that a trace begins
     /// with it. Past the end it is 127.
     pub statuses: Vec<u8>,
-    /// The NEXT stack: 79 elements, of which `point.depth` are used.
+    /// The NEXT stack: room for 79 return addresses. The first `point.depth` of them are on it.
     pub returns: Vec<u32>,
     pub rest: Parts,
     pub point: RunPoint,

@@ -242,8 +242,9 @@ pub fn restore_scalar<N: Notes>(
     requires store_target { slot < length store_target.now }
     requires there { slot < length registers.old }
     requires room { 0 < N.room notes.old }
-    ensures restored { OnTrue result (IsRestoredTo slot (get_or store_target.now slot 0) registers.old
-        registers.new (map numbers_of stashes.old.items) (map numbers_of stashes.new.items)) }
+    ensures restored { OnTrue result (IsRestoredTo slot (get_or store_target.now slot 0)
+        registers.old registers.new (map numbers_of stashes.old.items)
+        (map numbers_of stashes.new.items)) }
     ensures none { OnFalse result (used (get_or (map numbers_of stashes.old.items) slot no_stash)
         ≡ []) }
     ensures registers { OnFalse result (registers.new ≡ registers.old) }

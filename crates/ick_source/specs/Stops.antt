@@ -13,7 +13,8 @@ abbrev pub Stopping : Type 1
 Stopping = List ℕ → List ℕ → Wanted → Type 0
 
 -- a part of a repeated grammar is not there: the first one, or a later one
-pub data IsStopped (A : Type 0) (part : Part A) (stop : Stopping) (further : Further) : List ℕ → List ℕ → Wanted → Type 0 where
+pub data IsStopped (A : Type 0) (part : Part A) (stop : Stopping) (further : Further)
+    : List ℕ → List ℕ → Wanted → Type 0 where
   in_part : {from at : List ℕ} {w : Wanted} → stop from at w → IsStopped A part stop further from at w
   later_on : {from mid later at : List ℕ} {x : A} {w : Wanted} →
       part from mid x →

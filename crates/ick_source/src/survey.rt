@@ -1,6 +1,7 @@
 //! Decides which faults the statements of a text have.
 
-ghost use Rattle.std.specs.Prelude.{◌≡◌, ◌+◌, ◌<◌, ◌/◌, ◌≤◌, ◌↔◌, ℕ, IfOk, IsTrue, List, Some, None};
+ghost use Rattle.std.specs.Prelude.{◌≡◌, ◌+◌, ◌<◌, ◌/◌, ◌≤◌, ◌↔◌, ℕ, IfOk, IsTrue, List, Some};
+ghost use Rattle.std.specs.Prelude.{None};
 ghost use Rattle.std.specs.Prelude.{length, option_and_then, slice_get};
 ghost use Rattle.ick_bits.specs.declared.faults.FaultKind.TheVariants.{SameLabel};
 ghost use Rattle.ick_source.specs.Seen.{Sees, SeesAll};

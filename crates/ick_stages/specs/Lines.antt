@@ -4,7 +4,8 @@ use Rattle.ick_explorer.specs.declared.errors.RunsError.{RunsError}
 use Rattle.ick_explorer.specs.declared.errors.RunsError.TheVariants.{NoMemory, NoSuchRun, WorkFull, Failed, BadCursor}
 use Rattle.ick_explorer.specs.declared.errors.RunsError.TheVariants.{Read, Write}
 
--- All lines are written. If memory runs out, whole statements of them are, and if a write fails, a prefix of such lines.
+-- All lines are written. If memory runs out, whole statements of them are, and if a write fails, a prefix of such
+-- lines.
 abbrev pub WritesLines : {T : Type 0} → (All Whole : List ℕ → Type 0) → (before after : List ℕ) → Result T RunsError →
     Type 0
 WritesLines All Whole before after (Ok _) = (text : List ℕ) × All text × (after ≡ before ++ text)

@@ -1,5 +1,6 @@
 -- The lines of a source by its statements, whether it is refused or not.
-use Rattle.std.specs.Prelude.{ℕ, ◌≡◌, ◌+◌, ◌-◌, ◌≤◌, ◌||◌, Bool, true, false, if◌then◌else◌, List, [], ◌++◌, length, map}
+use Rattle.std.specs.Prelude.{ℕ, ◌≡◌, ◌+◌, ◌-◌, ◌≤◌, ◌||◌, Bool, true, false, if◌then◌else◌, List, [], ◌++◌, length}
+use Rattle.std.specs.Prelude.{map}
 use Rattle.std.specs.Prelude.{Option, Some, None, slice_get}
 use Rattle.ick_inspect.specs.Positions.{texts_of}
 use Rattle.ick_places.specs.declared.statement.Places.{Places}
@@ -96,7 +97,8 @@ AreAllFaults source seen faults true lines = AreFaults source seen faults (lengt
 AreAllFaults source seen faults false lines = lines ≡ []
 
 -- the lines of all faults, if they are asked for, and the last line
-pub record IsEnd (source : List ℕ) (seen : List Seen) (faults : List FaultAt) (asked : Bool) (text : List ℕ) : Type 0 where
+pub record IsEnd (source : List ℕ) (seen : List Seen) (faults : List FaultAt) (asked : Bool) (text : List ℕ)
+    : Type 0 where
   pub lines : List ℕ
   pub are : AreAllFaults source seen faults asked lines
   pub text_is : text ≡ lines ++ last_line faults

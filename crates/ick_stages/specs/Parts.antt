@@ -5,7 +5,8 @@ use Rattle.ick_places.specs.declared.head.Head.{Head}
 use Rattle.ick_places.specs.declared.head.Span.{Span}
 use Rattle.ick_places.specs.declared.mark.Mark.{Mark}
 use Rattle.ick_places.specs.declared.mark.Part.{Part}
-use Rattle.ick_places.specs.declared.mark.Part.TheVariants.{Variable, Mesh, Element, Unary, Binary, Listed, Gerund, Action}
+use Rattle.ick_places.specs.declared.mark.Part.TheVariants.{Variable, Mesh, Element, Unary, Binary, Listed, Gerund}
+use Rattle.ick_places.specs.declared.mark.Part.TheVariants.{Action}
 use Rattle.ick_places.specs.declared.mark.Part.TheVariants.{Name, Label, Operator, Group}
 use Rattle.ick_places.specs.Heads.{span}
 use Rattle.ick_places.specs.Marks.{is_operation}

@@ -148,8 +148,8 @@ made_by number op old new made =
 
 -- From draft to draft by operations, one after another, the lines of these steps, and who made the instructions. Behind
 -- each step the instructions do what the operations up to there do, and the facts hold of the values.
-pub data AreSteps (program : List StatementTree) (slots : Slots) (layout : Layout) : List Op → StatementDraft → StatementDraft → List ℕ
-    → Made → Type 0 where
+pub data AreSteps (program : List StatementTree) (slots : Slots) (layout : Layout)
+    : List Op → StatementDraft → StatementDraft → List ℕ → Made → Type 0 where
   no_step : {d : StatementDraft} → AreSteps program slots layout [] d d [] (record { first = []; store = 0 })
   one_more : {ops : List Op} {op : Op} {first old new : StatementDraft} {lines : List ℕ} {made : Made} →
       AreSteps program slots layout ops first old lines made →

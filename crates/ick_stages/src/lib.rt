@@ -16,8 +16,8 @@
 //! | `placed`, `parts` | where a statement and its parts are, and where reading stops |
 //! | `stages` | the stages of a statement |
 //! | `writing` | the stages of a whole program, written statement by statement |
-//! | `fault`, `listed` | the faults of a source, and the lines of its statements, whether it is refused or not |
-//! | `laws` | different trees have different texts; statements begin where the cut of the source goes on |
+//! | `fault`, `listed` | the faults of a source, and the lines of its statements, refused or not |
+//! | `laws` | different trees have different texts; statements begin where the cut goes on |
 #![tactic(auto)]
 
 mod body;

@@ -54,7 +54,8 @@ fn append_seen(
 ) -> Result<(), NoMemory>
     requires { IsPoint source.now start }
     ensures { OnOk result ((placed : Placed)
-        × IsPlacedAt source.now start.at asked.now.parts (statement_tree_of one.now.statement) placed
+        × IsPlacedAt source.now start.at asked.now.parts (statement_tree_of one.now.statement)
+        placed
         × Adds text.old text.new (seen_text asked.now one.now placed)) }
 {
     let placed = placed_at(alloc, source, start, &one.statement, asked.parts)?;
@@ -95,8 +96,8 @@ fn append_next(
 ) -> Result<(), NoMemory>
     requires { IsPoint source.now start }
     ensures starts { OnOk result (starts.new.items ≡ starts.old.items ++ start.at ∷ []) }
-    ensures piece { OnOk result ((piece : List ℕ) × HasSeen source.now start.at asked.now one.now piece
-        × Adds text.old text.new piece) }
+    ensures piece { OnOk result ((piece : List ℕ)
+        × HasSeen source.now start.at asked.now one.now piece × Adds text.old text.new piece) }
 {
     starts.push(start.at)?;
     append_seen_if(alloc, text, source, start, one, asked)
@@ -306,7 +307,8 @@ pub fn write_listed<W: ByteSink>(
 ) -> Result<(), RunsError>
     requires { W.failed writer.old + 1 < 2 ^ 64 }
     ensures count { W.failed writer.new ≡ W.failed writer.old + write_failures result }
-    ensures written { W.told ≡ true → WritesLines (HasListed source.now seen.now faults.now asked.now)
+    ensures written { W.told ≡ true →
+        WritesLines (HasListed source.now seen.now faults.now asked.now)
         (AreSome source.now seen.now faults.now asked.now)
         (W.written writer.old) (W.written writer.new) result }
 {

@@ -21,7 +21,8 @@ stages_app = record {
     no_binary_name = true;
     rules =
         bug_rule ∷ flag_rule (codes "tree") ∷ flag_rule (codes "operations") ∷ flag_rule (codes "parts")
-        ∷ flag_rule (codes "rules") ∷ flag_rule (codes "instructions") ∷ flag_rule (codes "traces") ∷ statement_rule ∷ file_rule ∷ [];
+        ∷ flag_rule (codes "rules") ∷ flag_rule (codes "instructions") ∷ flag_rule (codes "traces")
+        ∷ statement_rule ∷ file_rule ∷ [];
   };
   subs = [];
 }

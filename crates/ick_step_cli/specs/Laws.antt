@@ -23,9 +23,9 @@ pub record EndsAlike (a b : Answer) : Type 0 where
   pub errors : b.errors ≡ a.errors
   pub status : b.status ≡ a.status
 
--- A job has one error text and one status at most, unless its lines are too many for any session. Its output may differ:
--- a session goes on although memory runs out for a command, and the answer says so; and a trace has the names that a
--- step changed in the order of the code.
+-- A job has one error text and one status at most, unless its lines are too many for any session. Its output may
+-- differ: a session goes on although memory runs out for a command, and the answer says so; and a trace has the names
+-- that a step changed in the order of the code.
 abbrev pub OneEnd : Type 0
 OneEnd = (w : Wanted) (input : Option (List ℕ)) (lines : Lines) (source : Option (List ℕ)) (a b : Answer) →
     length lines.all + 1 < 2 ^ 64 → IsStepAnswer w input lines source a → IsStepAnswer w input lines source b →

@@ -53,8 +53,8 @@ pub record HasTraced (f : Settings) (code : Code) (positions : List LineColumn) 
   pub buffers : Buffers told (steps_text code positions seen) before after out
 
 -- .. and its whole trace was written
-pub record IsTraced (f : Settings) (code : Code) (positions : List LineColumn) (stopped : Stopped) (before after : List ℕ)
-    : Type 0 where
+pub record IsTraced (f : Settings) (code : Code) (positions : List LineColumn) (stopped : Stopped)
+    (before after : List ℕ) : Type 0 where
   pub seen : Seen
   pub has_stopped : HasStopped f seen stopped
   pub written : after ≡ before ++ trace_text code positions seen

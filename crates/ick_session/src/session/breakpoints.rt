@@ -11,7 +11,8 @@ use ick_syntax::Statement;
 impl<'c, 'a> Session<'c, 'a> {
     ghost use Rattle.std.specs.Prelude.{◌≡◌, ℕ, true, false, IfOk, OnErr, OnOk, length, List};
     ghost use Rattle.ick_inspect.specs.Text.{Adds};
-    ghost use Rattle.ick_session.specs.Breakpoints.{AnswersBreakpoint, Sets, has_statement, is_breakpoint};
+    ghost use Rattle.ick_session.specs.Breakpoints.{AnswersBreakpoint, Sets, has_statement};
+    ghost use Rattle.ick_session.specs.Breakpoints.{is_breakpoint};
     ghost use Rattle.ick_session.specs.Breakpoints.{set_text};
     ghost use Rattle.ick_syntax.specs.StatementTree.{statement_trees};
     ghost use Rattle.ick_session.specs.Commands.{to_break, to_break_label, to_delete, order_of};
