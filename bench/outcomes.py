@@ -12,7 +12,8 @@ The programs print at their end alone, but for `printed`, which prints each choi
 A model has a state for each state of its program at a choice, and SPIN says how many there are. SPIN and Maude find the
 states, and neither counts runs nor weighs them. SPIN's times are without making and compiling its program.
 
-A time is processor time without the system's, the least of some rounds. Nothing is judged.
+ick-outcomes has a limit that no run reaches, or that of the channel. A time is processor time without the system's, the
+least of some rounds. Nothing is judged.
 """
 import argparse
 import collections
@@ -28,6 +29,7 @@ from workloads import polite
 ROUNDS = 5
 LONG = 20  # seconds from which a command is called once
 PATIENCE = 900  # seconds after which Maude is ended
+UNREACHED = ["--limit", "10000"]
 # The next of 2047 numbers in the ring of a shift register: a counter that takes one statement.
 NEXT = "'.1$\"?'.1~#1024'$'.1~#256'\"~#1'~'#1023$#1'"
 SPIN_FLAGS = "-DSAFETY -DNOREDUCE -DNOCLAIM -DNOBOUNDCHECK".split()
@@ -59,7 +61,7 @@ def maude(operator, start, end, *rules):
 def coins(count):
     """Throws coins, and counts heads."""
     throws = [f"%50 .1 <- {NEXT}"] * count
-    return Case(source(".1 <- #1", *throws, "READ OUT .1", "GIVE UP"), [],
+    return Case(source(".1 <- #1", *throws, "READ OUT .1", "GIVE UP"), UNREACHED,
                 spin("short count = 0, heads = 0;", f"count < {count} -> count++",
                      f"count < {count} -> count++; heads++"),
                 maude("at : Nat Nat", f"at({count}, 0)", "at(0, b)", "at(s a, b) => at(a, b)",
@@ -73,7 +75,7 @@ def walk(moves):
     right = [f",2SUB#{place} <- #{place + 1}" for place in range(1, places)]
     steps = [".2 <- ,1SUB.1", "%50 .2 <- ,2SUB.1", ".1 <- .2"] * moves
     before = [f",1 <- #{places}", f",2 <- #{places}", *left, *right, f".1 <- #{moves + 1}"]
-    return Case(source(*before, *steps, "READ OUT .1", "GIVE UP"), [],
+    return Case(source(*before, *steps, "READ OUT .1", "GIVE UP"), UNREACHED,
                 spin(f"short count = 0, place = {moves};", f"count < {moves} -> count++; place++",
                      f"count < {moves} -> count++; place--"),
                 maude("at : Nat Nat", f"at({moves}, {moves})", "at(0, b)", "at(s a, s b) => at(a, b)",
@@ -96,7 +98,7 @@ def channel(limit):
 def printed(count):
     """Throws coins, and prints each head as a number of its own."""
     throws = [f"%50 READ OUT #{number}" for number in range(1, count + 1)]
-    return Case(source(*throws, "GIVE UP"), ["--most", "4294967295"],
+    return Case(source(*throws, "GIVE UP"), [*UNREACHED, "--most", "4294967295"],
                 spin("byte count = 0; int made = 1;", f"count < {count} -> count++; made = made * 2",
                      f"count < {count} -> count++; made = made * 2 + 1"),
                 maude("at : Nat Nat", f"at({count}, 1)", "at(0, b)", "at(s a, b) => at(a, b + b)",
