@@ -172,7 +172,7 @@ pub fn is_abstained_from(present: &StateView<'_, '_, '_>, statement: u32) -> boo
     ensures { (present_state present.now).abstained statement ≡ result }
 {
     present.law();
-    present.memory.statuses[statement as usize] >= 128
+    present.memory.statuses[statement as usize].is_abstained()
 }
 
 /// Returns what is left of a text behind its first `taken` bytes.

@@ -1,9 +1,9 @@
 -- What a machine asks, by the status of the statement that is met.
-use Rattle.std.proofs.Common.{◌≡◌, ◌≢◌, ℕ, ◌+◌, ◌-◌, ◌<◌, ◌≤◌, Bool, true, false, List, length, get_or, Option}
+use Rattle.std.proofs.Common.{◌≡◌, ◌≢◌, ℕ, ◌+◌, ◌-◌, ◌<◌, ◌≤◌, List, length, get_or, Option}
 use Rattle.std.proofs.Common.{Some, None}
 use Rattle.std.proofs.Common.{refl, ap, arith, rules}
-use Rattle.std.specs.Prelude.{◌⊎◌, nat_lt, ◌&&◌, option_map, if◌then◌else◌}
-use Rattle.std.proofs.{lemmas.Bool.cases_lt, lemmas.Bool.Decides.nat_tests, lemmas.Option.slice_get_past}
+use Rattle.std.specs.Prelude.{option_map, if◌then◌else◌}
+use Rattle.std.proofs.{lemmas.Bool.cases_lt, lemmas.Option.slice_get_past}
 use Rattle.ick_syntax.specs.StatementTree.{StatementTree}
 use Rattle.ick_code.specs.{declared.code.Code.Code, Compiled.code_program, meaning.State.{State, Ending, statement_at}}
 use Rattle.ick_code.specs.meaning.Move.{plain, choice, ask, ask_of, ask_at, is_uncertain}
@@ -12,44 +12,12 @@ use Rattle.ick_engine.specs.{declared.exit.RawEnd.RawEnd, Exits.end_of}
 use Rattle.ick_runtime.{proofs.{Statuses.some_and, Turns.no_input}, specs.{View.View, Inputs.Input, Status.percent_of}}
 use Rattle.ick_runtime.specs.{Status.{lack_of, is_abstained}, Steady.IsReady}
 use Rattle.ick_backtrack.specs.{Asked.{Finish, finished, asked_at_end}, Machine.Program, Steps.IsPlain}
-use Rattle.ick_machine.specs.{Asked.{is_open, asked_by}, Run.{ending_of, run_state}}
-
--- what a status lacks to 100, if no choice is asked at it
-certain_lacks : (status : ℕ) → is_open status ≡ false → is_abstained status ≡ false →
-    (lack_of status ≡ 0) ⊎ (100 ≤ lack_of status)
-certain_lacks status certain free = grind (arith, nat_tests, certain, free)
-
--- and if one is
-open_lacks : (status : ℕ) → is_open status ≡ true → lack_of status ≡ status
-open_lacks status open_ = grind (arith, nat_tests, open_)
-
-open_free : (status : ℕ) → is_open status ≡ true → is_abstained status ≡ false
-open_free status open_ = grind (arith, nat_tests, open_)
-
-pub open_within : (status : ℕ) → is_open status ≡ true → (0 < status) × (status < 100)
-open_within status open_ = (grind (arith, nat_tests, open_), grind (arith, nat_tests, open_))
-
--- a choice is asked only at such a status
-pub choice_open : (status chance : ℕ) → Some (choice chance) ≡ Some (asked_by status) → is_open status ≡ true
-choice_open status chance asks = cases (is_open status) refl
-  where
-    cases : (open_ : Bool) → is_open status ≡ open_ → is_open status ≡ true
-    cases true is = is
-    cases false is = absurd (cc (asks, ap (λ o. if o then choice (100 - status) else plain) is))
-
--- whether a chance is between 0 and 100, by what it lacks
-certain_chance : (chance lack : ℕ) → lack ≡ 100 - percent_of chance → (lack ≡ 0) ⊎ (100 ≤ lack) →
-    (nat_lt 0 chance && nat_lt chance 100) ≡ false
-certain_chance chance lack is certain = search rules
-
-open_chance : (chance lack : ℕ) → lack ≡ 100 - percent_of chance → 0 < lack → lack < 100 →
-    ((nat_lt 0 chance && nat_lt chance 100) ≡ true) × (chance ≡ 100 - lack)
-open_chance chance lack is some few = search rules
+use Rattle.ick_machine.specs.{Asked.{asked_by}, Run.{ending_of, run_state}}
 
 -- a statement asks what its status says
 asked_there : (statement : StatementTree) (status : ℕ) → lack_of status ≡ 100 - percent_of statement.chance →
     (if is_uncertain statement (is_abstained status) then choice statement.chance else plain) ≡ asked_by status
-asked_there statement status is = search (rules, certain_chance, certain_lacks, open_chance, open_free, open_lacks, open_within)
+asked_there statement status is = search rules
 
 past_none : (program : List StatementTree) → statement_at program (length program + 1) ≡ None
 past_none program = search (rules, slice_get_past)

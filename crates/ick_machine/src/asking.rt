@@ -10,7 +10,7 @@ use ick_backtrack::{Ask, End};
 use ick_bits::{Fault, FaultKind};
 use ick_code::Code;
 use ick_engine::RawEnd;
-use ick_runtime::Memory;
+use ick_runtime::{Memory, Status};
 use ick_traces::TracedProgram;
 
 /// How a run ends, or stops.
@@ -68,11 +68,11 @@ pub fn end_of<'c, 'a>(code: &'c Code<'a>, text: &'c [u8], ended: RawEnd) -> End<
 
 /// Returns what is asked at a statement with a status of the engine's memory (Revised Manual, 4.3):
 /// a choice with its chance from 1 to 99, or nothing.
-pub fn asked_at<'c>(status: u8) -> Ask<'c>
+pub fn asked_at<'c>(status: Status) -> Ask<'c>
     ensures { asked_of result ≡ Some (asked_by status) }
 {
-    if status > 0 && status < 100 {
-        return Ask::Choice(100 - status);
+    if status.asks() {
+        return Ask::Choice(status.chance());
     }
     Ask::Plain
 }

@@ -5,7 +5,7 @@ ghost use Rattle.std.specs.Prelude.{◌≡◌, ◌++◌, ◌≤◌, drop, length
 use crate::copy::copy_rest;
 use ick_bits::NoMemory;
 use ick_instructions::Lowered;
-use ick_runtime::{Memory, Parts};
+use ick_runtime::{Memory, Parts, Status};
 use std::alloc::Global;
 use std::mem::swap;
 
@@ -20,7 +20,7 @@ pub struct Saved {
     /// The register that each register leads to, as in a `Memory`.
     pub store_target: Vec<u32>,
     /// The statuses of all statements, by their numbers.
-    pub statuses: Vec<u8>,
+    pub statuses: Vec<Status>,
     /// The return addresses, the newest last.
     pub returns: Vec<u32>,
     /// The parts that few instructions change.

@@ -4,7 +4,7 @@ ghost use Rattle.std.specs.Prelude.{◌≡◌, ◌≢◌, ◌<◌, ◌≤◌, le
 ghost use Rattle.ick_marks.specs.Newest.{register_first};
 
 use ick_bits::NoMemory;
-use ick_runtime::{Array, ArrayChange, Entry, Notes, Stash};
+use ick_runtime::{Array, ArrayChange, Entry, NEXT_STACK_ROOM, Notes, Stash, Status};
 use std::alloc::Global;
 
 /// A log of changes, from which a run goes back to its marks. Temporaries, and what is behind them,
@@ -16,7 +16,7 @@ pub struct Trail {
     pub(crate) entries: Vec<Entry>,
     /// The old arrays, with spare ones behind them.
     pub(crate) arrays: Stash<Array>,
-    pub(crate) statuses: Vec<Vec<u8>>,
+    pub(crate) statuses: Vec<Vec<Status>>,
     /// The least depth of the NEXT stack since the newest mark.
     pub(crate) low: usize,
     /// The first temporary register.
@@ -124,7 +124,7 @@ impl Notes for Trail {
     #[inline(always)]
     fn has_room(&self, more: usize) -> bool {
         let room = self.entries.capacity() - self.entries.len();
-        room >= 79 && room - 79 >= more
+        room >= NEXT_STACK_ROOM && room - NEXT_STACK_ROOM >= more
     }
 
     #[inline(always)]
@@ -160,7 +160,7 @@ impl Notes for Trail {
     }
 
     fn make_room(&mut self, more: usize) -> Result<(), NoMemory> {
-        self.entries.reserve(more.saturating_add(79))?;
+        self.entries.reserve(more.saturating_add(NEXT_STACK_ROOM))?;
         Ok(())
     }
 
@@ -187,7 +187,7 @@ impl Notes for Trail {
     }
 
     #[tactic(auto, using(crate::proofs::Changes::noting))]
-    fn note_statuses(&mut self, statuses: &[u8]) -> Result<(), NoMemory> {
+    fn note_statuses(&mut self, statuses: &[Status]) -> Result<(), NoMemory> {
         let alloc = *self.entries.allocator();
         self.statuses.push(Vec::from_slice(alloc, statuses)?)?;
         self.newest = u32::MAX;

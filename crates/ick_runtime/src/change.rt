@@ -1,5 +1,6 @@
 //! What is noted of a change, so that it can be undone.
 
+use crate::status::Status;
 use std::mem::size_of;
 
 /// How an array was changed. The array is kept apart from its entry.
@@ -21,7 +22,7 @@ pub enum Entry {
     /// The register to which a register leads.
     Home(u32, u32),
     /// The status of a statement.
-    Status(u32, u8),
+    Status(u32, Status),
     /// The return address at an index of the NEXT stack.
     Return(u32, u32),
     /// The number of an element: its slot, its offset and the number.

@@ -2,6 +2,7 @@
 //!
 //! - `memory`: the state of a run, as lists
 //! - `fresh`: the memory in which a run begins
+//! - `status`: whether a statement is done, is passed over, or asks for a choice
 //! - `point`: where a run is, and the registers that it sets
 //! - `calculate`: the numbers that calculations give
 //! - `array`: arrays: their elements, and whether they are ignored
@@ -23,6 +24,7 @@ mod notes;
 mod point;
 mod returns;
 mod stash;
+mod status;
 mod subscripts;
 mod tracer;
 
@@ -36,9 +38,10 @@ pub use halt::{Halt, fault_result};
 pub use memory::{Array, Memory, Parts, Stash};
 pub use notes::{Nobody, Notes};
 pub use point::{RunPoint, put, set_register};
-pub use returns::{can_pop, resume_fault};
+pub use returns::{NEXT_STACK_ROOM, can_pop, resume_fault};
 pub use stash::{
     drop_at, exchange, put_at, restore_array, restore_scalar, save_array, save_scalar,
 };
+pub use status::Status;
 pub use subscripts::Subscripts;
 pub use tracer::{NoTraces, Tracer};

@@ -3,6 +3,7 @@
 ghost use Rattle.std.specs.Prelude.{◌≤◌, length};
 
 use crate::point::RunPoint;
+use crate::status::Status;
 
 /// An array: its dimensions, none at first, and its elements row by row.
 #[derive(Drop)]
@@ -42,12 +43,10 @@ pub struct Memory {
     pub registers: Vec<u32>,
     /// The register that each register leads to: itself, or the last one if its scalar is ignored.
     pub store_target: Vec<u32>,
-    /// By the number of a statement: 0 if it is certain to be done, from 1 to 99 if a choice is
-    /// asked, and 100 or at least 128 if it is passed over. A WRITE IN that is certain to be done
-    /// has 101. A statement that is certain to be done may have 126, which says that a trace begins
-    /// with it. Past the end it is 127.
-    pub statuses: Vec<u8>,
-    /// The NEXT stack: room for 79 return addresses. The first `point.depth` of them are on it.
+    /// The statuses of all statements, by their numbers, and the status past the end.
+    pub statuses: Vec<Status>,
+    /// The NEXT stack: room for `NEXT_STACK_ROOM` return addresses. The first `point.depth` of them
+    /// are on it.
     pub returns: Vec<u32>,
     pub rest: Parts,
     pub point: RunPoint,

@@ -13,6 +13,7 @@ ghost use Rattle.ick_runtime.specs.{Noting.NotesOne, View.array_of, View.is_hidd
 
 use crate::change::{ArrayChange, Entry};
 use crate::memory::Array;
+use crate::status::Status;
 use ick_bits::NoMemory;
 
 /// Notes changes before they are made, so that they can be undone.
@@ -111,7 +112,7 @@ pub trait Notes: Drop {
 
     /// Notes that statuses will change, with a copy of them all. If memory runs out, nothing is
     /// noted.
-    fn note_statuses(&mut self, statuses: &[u8]) -> Result<(), NoMemory>
+    fn note_statuses(&mut self, statuses: &[Status]) -> Result<(), NoMemory>
         requires room { 0 < room self.old }
         ensures noted { NotesOne room low fixed changes self.old self.new }
         ensures notes { OnOk result (NotesChange Undoes self.old self.new
@@ -182,7 +183,7 @@ impl Notes for Nobody {
     }
 
     #[inline(always)]
-    fn note_statuses(&mut self, statuses: &[u8]) -> Result<(), NoMemory> {
+    fn note_statuses(&mut self, statuses: &[Status]) -> Result<(), NoMemory> {
         Ok(())
     }
 }

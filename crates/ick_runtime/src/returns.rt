@@ -1,9 +1,12 @@
-//! The NEXT stack: whether return addresses can be popped.
+//! The NEXT stack: how many return addresses it has, and whether they can be popped.
 
 ghost use Rattle.std.specs.{Prelude.{◌≡◌, ◌<◌, ◌≤◌, ◌⊎◌}, Bool.MatchBool};
 ghost use Rattle.ick_runtime.specs.Returns.{rupture_of};
 
 use ick_bits::FaultKind;
+
+/// How many return addresses the NEXT stack has room for (Revised Manual, 4.4.2).
+pub const NEXT_STACK_ROOM: usize = 79;
 
 /// Returns whether so many can be popped, and at least one.
 #[inline(always)]

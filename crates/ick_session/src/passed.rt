@@ -7,24 +7,18 @@ ghost use Rattle.ick_inspect.specs.Text.{Adds};
 ghost use Rattle.ick_machine.specs.StateView.{present_program, present_state};
 ghost use Rattle.ick_session.specs.Changes.{passed_text};
 
-use ick_inspect::{StateView, Text, is_abstained_from, place};
+use ick_inspect::{StateView, Text, place};
 
 /// Returns whether a statement is done. If its chance asks a choice, `chosen` is the answer.
-#[tactic(auto, unfolding(ick_machine::specs::StateView::present_program))]
+#[tactic(auto, unfolding(ick_machine::specs::StateView::present_program, ick_machine::specs::StateView::present_state), using(ick_runtime::proofs::Statuses::done_by))]
 fn is_done(present: &StateView<'_, '_, '_>, statement: u32, chosen: bool) -> bool
     requires first { 1 ≤ statement }
     requires last { statement ≤ length (present_program present.now) }
     ensures { option_map (λ tree. is_done tree ((present_state present.now).abstained statement)
         chosen) (statement_at (present_program present.now) statement) ≡ Some result }
 {
-    let chance = present.lowered.code.chance(statement);
-    if is_abstained_from(present, statement) {
-        return false;
-    }
-    if 0 < chance && chance < 100 {
-        return chosen;
-    }
-    chance == 100
+    present.law();
+    present.memory.statuses[statement as usize].is_done_by(chosen)
 }
 
 /// Appends that the statement that is met next is passed over, unless it is done. If its chance

@@ -56,22 +56,16 @@ module _ {T : Type 0} (bit : T → Bool) where
       ap (mix_places hash at) (drop_all at (map bit xs) (omega (arith, h, length-map xs bit)))
 
 -- no place is mixed if no status says that its statement is abstained from
-pub place_none : (hash : ℕ) (xs : List ℕ) (most : ℕ) → most < 128 →
-    ((k : ℕ) → k < length xs → slice_index xs k ≤ most) → mix_places hash 0 (map is_abstained xs) ≡ hash
-place_none hash xs most few h = by_list 0 xs h
+pub place_none : (hash : ℕ) (xs : List ℕ) → ((k : ℕ) → k < length xs → is_abstained (slice_index xs k) ≡ false) →
+    mix_places hash 0 (map is_abstained xs) ≡ hash
+place_none hash xs h = by_list 0 xs h
   where
-    free : (x : ℕ) → x ≤ most → is_abstained x ≡ false
-    free x le = lt-leb' x (omega (arith, le, few))
-      where
-        lt-leb' : (x : ℕ) → x < 128 → nat_le 128 x ≡ false
-        lt-leb' x lt = grind (arith, nat_tests, lt)
-
-    by_list : (place : ℕ) (xs : List ℕ) → ((k : ℕ) → k < length xs → slice_index xs k ≤ most) →
+    by_list : (place : ℕ) (xs : List ℕ) → ((k : ℕ) → k < length xs → is_abstained (slice_index xs k) ≡ false) →
         mix_places hash place (map is_abstained xs) ≡ hash
     by_list place [] h = refl
     by_list place (x ∷ xs) h =
         ap (λ b. mix_places (if b then mix hash place else hash) (suc place) (map is_abstained xs))
-        (free x (h 0 (omega arith)))
+        (h 0 (omega arith))
         ∙ by_list (suc place) xs (λ k lt. h (suc k) (omega (arith, lt)))
 
 -- for places that are mixed one by one

@@ -5,10 +5,10 @@ ghost use Rattle.ick_backtrack.specs.Asked.{finish_of};
 ghost use Rattle.ick_runtime.specs.{Status.is_abstained, View.is_hidden};
 ghost use Rattle.ick_states.specs.Alike.{AreAlike, AreAlikeRests};
 
-use crate::parts::{abstains, are_same};
+use crate::parts::are_same;
 use ick_backtrack::End;
 use ick_marks::Saved;
-use ick_runtime::{Array, Parts};
+use ick_runtime::{Array, Parts, Status};
 
 /// Returns whether two states have the same bytes of input and output. The input has so many bytes.
 fn same_tape(one: &Parts, other: &Parts, long: usize) -> bool
@@ -43,17 +43,9 @@ fn same_hidden(one: &[Array], other: &[Array]) -> bool
     true
 }
 
-/// Returns whether two statuses say alike whether a statement is abstained from.
-fn abstain_alike(one: u8, other: u8) -> bool
-    ensures same { result ≡ true → is_abstained one ≡ is_abstained other }
-    ensures found { is_abstained one ≡ is_abstained other → result ≡ true }
-{
-    abstains(one) == abstains(other)
-}
-
 /// Returns whether the same statements are abstained from, by their statuses.
 #[tactic(auto, using(crate::proofs::SameLists::value_by_value))]
-fn same_abstained(one: &[u8], other: &[u8]) -> bool
+fn same_abstained(one: &[Status], other: &[Status]) -> bool
     ensures same { result ≡ true → map is_abstained one.now ≡ map is_abstained other.now }
     ensures found { map is_abstained one.now ≡ map is_abstained other.now → result ≡ true }
 {
@@ -61,7 +53,7 @@ fn same_abstained(one: &[u8], other: &[u8]) -> bool
         return false;
     }
     for at in 0..one.len() {
-        if !abstain_alike(one[at], other[at]) {
+        if one[at].is_abstained() != other[at].is_abstained() {
             return false;
         }
     }
@@ -89,7 +81,7 @@ pub fn same(one: &Saved, other: &Saved, long: usize) -> bool
     one.place == other.place
         && one.numbers == other.numbers
         && one.store_target == other.store_target
-        && (one.statuses == other.statuses || same_abstained(&one.statuses, &other.statuses))
+        && same_abstained(&one.statuses, &other.statuses)
         && one.returns == other.returns
         && same_rest(&one.rest, &other.rest, long)
 }

@@ -1,14 +1,14 @@
 //! Numbers by which kept states are looked up.
 
-ghost use Rattle.std.specs.Prelude.{◌≡◌, ◌<◌, ◌≤◌, ℕ, length, map, slice_index, if◌then◌else◌};
+ghost use Rattle.std.specs.Prelude.{◌≡◌, ◌<◌, ℕ, false, length, map, slice_index, if◌then◌else◌};
 ghost use Rattle.ick_runtime.specs.{Status.is_abstained, View.is_hidden};
 ghost use Rattle.ick_states.specs.Hashed.{mix_bits, mix_bytes as mixed_bytes};
 ghost use Rattle.ick_states.specs.Hashed.{mix_rest as mixed_rest};
 ghost use Rattle.ick_states.specs.Hashed.{mix, mix_places, mix_saved};
 
-use crate::parts::{abstains, mix_all, mix_numbers, mixed};
+use crate::parts::{mix_all, mix_numbers, mixed};
 use ick_marks::Saved;
-use ick_runtime::{Array, Parts};
+use ick_runtime::{Array, Parts, Status};
 use std::hash::{FoldHasher, Hasher};
 
 /// Mixes bytes into a hash.
@@ -39,28 +39,31 @@ fn mix_if(hash: u64, on: bool, number: u64) -> u64
     if on { mixed(hash, number) } else { hash }
 }
 
-/// Returns the greatest status.
-fn greatest(statuses: &[u8]) -> u8
-    ensures { (k : ℕ) → k < length statuses.now → slice_index statuses.now k ≤ result }
+/// Returns whether some statement is abstained from.
+fn some_abstained(statuses: &[Status]) -> bool
+    ensures { result ≡ false → (k : ℕ) → k < length statuses.now →
+        is_abstained (slice_index statuses.now k) ≡ false }
 {
-    let mut greatest = 0;
+    let mut some = false;
     for at in 0..statuses.len() {
-        greatest = greatest.max(statuses[at]);
+        if statuses[at].is_abstained() {
+            some = true;
+        }
     }
-    greatest
+    some
 }
 
 /// Mixes the places of the statuses of statements that are abstained from into a hash.
 #[tactic(auto, using(crate::proofs::Mixing::place_by_place))]
-fn mix_abstained(hash: u64, statuses: &[u8]) -> u64
+fn mix_abstained(hash: u64, statuses: &[Status]) -> u64
     ensures { result ≡ mix_places hash 0 (map is_abstained statuses.now) }
 {
-    if greatest(statuses) < 128 {
+    if !some_abstained(statuses) {
         return hash;
     }
     let mut hash = hash;
     for at in 0..statuses.len() {
-        hash = mix_if(hash, abstains(statuses[at]), at as u64);
+        hash = mix_if(hash, statuses[at].is_abstained(), at as u64);
     }
     hash
 }

@@ -2,7 +2,6 @@
 
 ghost use Rattle.std.specs.Prelude.{◌≡◌, ◌+◌, ◌≤◌, ℕ, true, length, map, slice_index};
 ghost use Rattle.std.specs.Hash.FoldHasher.{folded_multiply};
-ghost use Rattle.ick_runtime.specs.Status.{is_abstained};
 ghost use Rattle.ick_states.specs.Hashed.{mix, mix_all as mixed_all, pair};
 ghost use Rattle.ick_states.specs.Hashed.{mix_numbers as mixed_numbers, mix_pairs as mixed_pairs};
 
@@ -27,13 +26,6 @@ pub trait Part {
     /// Mixes the value into a hash.
     fn mix(&self, hash: u64) -> u64
         ensures { result ≡ mixed hash (value self.now) };
-}
-
-/// Returns whether a statement with this status is abstained from.
-pub fn abstains(status: u8) -> bool
-    ensures { result ≡ is_abstained status }
-{
-    status >= 128
 }
 
 /// Multiplies two numbers, and joins the halves of the product.

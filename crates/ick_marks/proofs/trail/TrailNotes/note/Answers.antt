@@ -3,7 +3,8 @@ use Rattle.ick_marks.proofs.{Changes.below_other, Changes.fixed_grown, Changes.g
 use Rattle.ick_marks.specs.TrailChanges.{changes_by}
 use Rattle.ick_runtime.{specs.Undo.stands_apart, proofs.Undoing.restored_left}
 use Rattle.ick_runtime.specs.declared.change.Entry.TheVariants.{Register, ScalarRestored, ScalarTaken}
-use Rattle.ick_marks.proofs.trail.TrailNotes.note.Goals.{in-Register-2, in-ScalarRestored, in_default, in_default-2}
+use Rattle.ick_marks.proofs.trail.TrailNotes.note.Goals.{in-Register-2, in-ScalarRestored, in_default, in_default-via-in_default}
+use Rattle.ick_marks.proofs.trail.TrailNotes.note.Goals.{in_default-via-in-ScalarRestored+else-slot-self}
 use Rattle.ick_marks.proofs.trail.TrailNotes.note.Goals as goal
 
 pub returns-clause-notes : goal.returns-clause-notes
@@ -24,13 +25,15 @@ returns-clause-notes c = λ k v m can h.
             before.0,
             alike_rewinds (restored_left t.base t.low now.slot now.number now.field-2 v w.if-slot-self.true) before.1,
           )
-      | in_default-2 w ↦
-          let now = w.in-ScalarRestored in
-          let is : pushed ≡ ScalarRestored now.slot now.number now.field-2 = ap (λ p. p.1) w.newest-is ∙ now.is in
-          noted_alone t _ _ _ k v m grew is refl w.if-slot-self.false (rw now.is at can) (rw now.is at h)
-      | in_default w ↦
-          noted_alone t _ _ c.args.entry k v m grew (ap (λ p. p.1) w.newest-is) c.requires.alone
-          (below_other t.base c.args.entry w.in_default.not-Register (search rules)) can h
+      | in_default w ↦ elim w.in_default.branch [
+        | in_default-via-in-ScalarRestored+else-slot-self w' ↦
+            let now = w'.in-ScalarRestored in
+            let is : pushed ≡ ScalarRestored now.slot now.number now.field-2 = ap (λ p. p.1) w.newest-is ∙ now.is in
+            noted_alone t _ _ _ k v m grew is refl w'.if-slot-self.false (rw now.is at can) (rw now.is at h)
+        | in_default-via-in_default w' ↦
+            noted_alone t _ _ c.args.entry k v m grew (ap (λ p. p.1) w.newest-is) c.requires.alone
+            (below_other t.base c.args.entry w'.in_default.not-Register (search rules)) can h
+      ]
     ]
 
 pub returns-clause-noted : goal.returns-clause-noted
