@@ -1,15 +1,15 @@
 -- Laws of what the choices of a run were asked by.
 use Prim.Native.Nat.{zero, suc}
 use Rattle.std.proofs.Common.{◌≡◌, ℕ, ◌+◌, ◌-◌, ◌<◌, ◌≤◌, Bool, false, List, [], ◌∷◌, ◌++◌, length, take, drop}
-use Rattle.std.proofs.Common.{refl, ap, sym, ◌∙◌, subst, arith, append_assoc, get_or, Option, Some, None, min, ◌⊎◌, inl, inr}
+use Rattle.std.proofs.Common.{refl, ap, sym, ◌∙◌, subst, arith, append_assoc, get_or, Some, None, min, ◌⊎◌, inl, inr}
 use Rattle.std.specs.List.{flat_map}
 use Rattle.std.proofs.lemmas.List.{append-nil, length-drop, length-take-le, take-append-drop, take_all}
 use Rattle.std.proofs.lemmas.Bool.{cases_lt}
 use Rattle.std.proofs.Math.Seq.{take-suc}
 use Rattle.ick_code.specs.meaning.State.{State, Ending}
 use Rattle.ick_code.specs.meaning.Move.{Asking, plain, choice, ended}
-use Rattle.ick_outcomes.specs.Programs.{ask, advance, Program, after_steps, IsPlain, RunsOn, Leads, IsWhole, run}
-use Rattle.ick_backtrack.specs.Asked.{Finish, IsGoing, asked_at_end, at_limit, finish_of, finished}
+use Rattle.ick_outcomes.specs.Programs.{ask, advance, Program, after_steps, RunsOn, Leads, IsWhole, run}
+use Rattle.ick_backtrack.specs.Asked.{Finish, asked_at_end, at_limit, finish_of, finished}
 use Rattle.ick_backtrack.specs.declared.asking.End.{End}
 use Rattle.ick_explorer.specs.Paths.{later}
 use Rattle.ick_explorer.specs.Runs.{Execution, IsEnd, ends, stays}

@@ -1,6 +1,6 @@
 -- Proves that a program has more runs than nodes that wait.
 use Prim.Native.Nat.{zero, suc}
-use Rattle.std.proofs.Common.{◌≡◌, ℕ, ◌+◌, ◌<◌, ◌≤◌, Bool, List, [], ◌∷◌, ◌++◌, length}
+use Rattle.std.proofs.Common.{◌≡◌, ℕ, ◌<◌, ◌≤◌, Bool, List, [], ◌∷◌, ◌++◌, length}
 use Rattle.std.proofs.Common.{Result, Err, ap, sym, ◌∙◌, subst, false, append_assoc, arith}
 use Rattle.std.specs.Result.{IsErrAnd}
 use Rattle.std.proofs.Math.Nat.{mul-pos}
@@ -9,11 +9,16 @@ use Rattle.ick_code.specs.meaning.State.{State}
 use Rattle.ick_code.specs.meaning.Move.{Asking, plain, choice, ended}
 use Rattle.ick_outcomes.specs.Programs.{ask, advance, Program}
 use Rattle.ick_outcomes.specs.Tallies.{Tally, tally, tally_at_limit, tally_on}
-use Rattle.ick_outcomes.specs.Summaries.{Row, HasMoreRuns}
+use Rattle.ick_outcomes.specs.Summaries.{HasMoreRuns}
 use Rattle.ick_outcomes.specs.Weights.{amount}
-use Rattle.ick_outcomes.specs.Accounts.{Configuration, Pending, all_ahead, any_outcome, runs_in, IsAccount, SettlesAll}
+use Rattle.ick_outcomes.specs.Accounts.{Configuration, ahead, all_ahead, any_outcome}
+use Rattle.ick_outcomes.specs.Searches.{Adds, IsAccount, TakesDue, nodes_in, runs_with}
 use Rattle.ick_outcomes.specs.Seen.{pending_of, nodes_of}
 use Rattle.ick_outcomes.specs.declared.pending.Node.{Node}
+use Rattle.ick_outcomes.specs.declared.bucket.Bucket.{Bucket}
+use Rattle.ick_outcomes.specs.declared.search.Search.{Search}
+use Rattle.ick_outcomes.proofs.Searching.{takes_runs}
+use Rattle.ick_outcomes.proofs.Sums.{joined-append}
 use Rattle.ick_outcomes.proofs.Wholes.{all_runs}
 
 limit-some : (a : Asking) (s : State) → 0 < (tally_at_limit any_outcome a s).count
@@ -45,31 +50,30 @@ nodes-some seen (n ∷ ns) =
     let more = nodes-some seen ns in
     omega (arith, one, more)
 
-ahead-append : (ns ms : List Pending) → (all_ahead any_outcome (ns ++ ms)).count
-    ≡ (all_ahead any_outcome ns).count + (all_ahead any_outcome ms).count
-ahead-append [] ms = omega arith
-ahead-append (n ∷ ns) ms = let h = ahead-append ns ms in omega (arith, h)
-
--- more nodes than so many were put back, so more runs than so many go on from all nodes
-pub more_nodes : {S : Type 0} (seen : S → Configuration) (left most : ℕ) (all made rest later : List (Node S)) (n : Node S)
-    (rs rs' : List Row) → all ≡ made ++ n ∷ rest →
-    SettlesAll left (nodes_of seen (made ++ n ∷ [])) [] rs (nodes_of seen later) rs' → most < length later →
-    most < runs_in (nodes_of seen all) rs
-more_nodes seen left most all made rest later n rs rs' e h lt =
-    let same : (made ++ n ∷ []) ++ rest ≡ made ++ n ∷ rest = append_assoc made (n ∷ []) rest in
+-- more nodes than so many wait after some nodes that were due, so more runs than so many go on from all of them and from
+-- those that waited before, or are in rows
+pub too_many : {S : Type 0} (seen : S → Configuration) (suits : S → Type 0) (due made rest : List (Node S)) (n : Node S)
+    (left most : ℕ) (s s' : Search S) → due ≡ made ++ n ∷ rest →
+    Adds seen suits (λ q. all_ahead q (nodes_of seen (made ++ n ∷ []))) left s s' → most < s'.count →
+    most < runs_with seen due s
+too_many seen suits due made rest n left most s s' e h lt =
+    let now = made ++ n ∷ [] in
+    let same : now ++ rest ≡ made ++ n ∷ rest = append_assoc made (n ∷ []) rest in
     let whole = ap (λ ns. (all_ahead any_outcome (nodes_of seen ns)).count) (e ∙ sym same)
-    ∙ (ap (λ ns. (all_ahead any_outcome ns).count) (map-append (pending_of seen) (made ++ n ∷ []) rest)
-    ∙ ahead-append (nodes_of seen (made ++ n ∷ [])) (nodes_of seen rest)) in
-    let counts = ap (λ t. t.count) (h.settled any_outcome) in
-    let many = nodes-some seen later in
-    omega (arith, whole, counts, many, lt)
+    ∙ (ap (λ ns. (all_ahead any_outcome ns).count) (map-append (pending_of seen) now rest)
+    ∙ ap (λ t. t.count) (joined-append (ahead any_outcome) (nodes_of seen now) (nodes_of seen rest))) in
+    let counts = ap (λ t. t.count) (h.added any_outcome) in
+    let few = h.filed.few in
+    let many = nodes-some seen (nodes_in s'.buckets.items) in
+    omega (arith, whole, counts, few, many, lt)
 
 -- and more runs than so many go on from the first node
-pub more_runs : (p : Configuration) (limit most m : ℕ) (ns : List Pending) (rs : List Row) →
-    IsAccount (record { at = p; left = limit; count = 1; weight = amount 1 0 limit; choices = [] }) ns rs m →
-    most < runs_in ns rs → HasMoreRuns p.program p.state limit most
-more_runs p limit most m ns rs h lt =
-    let counts = ap (λ t. t.count) (h.whole any_outcome) in
+pub more_runs : {S : Type 0} (seen : S → Configuration) (suits : S → Type 0) (p : Configuration) (limit most : ℕ)
+    (due : Bucket S) (s s' : Search S) →
+    IsAccount seen suits (record { at = p; left = limit; count = 1; weight = amount 1 0 limit; choices = [] }) s →
+    TakesDue due s s' → most < runs_with seen due.nodes.items s' → HasMoreRuns p.program p.state limit most
+more_runs seen suits p limit most due s s' h k lt =
+    let counts = ap (λ t. t.count) (h.whole any_outcome ∙ takes_runs seen suits due s s' k any_outcome) in
     record {
       runs = (tally p.program p.state limit any_outcome).count;
       counted = all_runs p.program p.state limit;

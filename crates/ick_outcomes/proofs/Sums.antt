@@ -7,15 +7,14 @@ use Rattle.std.specs.List.{Contains}
 use Rattle.std.proofs.lemmas.List.{append-nil}
 use Rattle.ick_code.specs.meaning.State.{State}
 use Rattle.ick_code.specs.meaning.Move.{choice, ended}
-use Rattle.ick_outcomes.specs.Programs.{ask, advance, Program, after_steps, IsPlain, RunsOn}
+use Rattle.ick_outcomes.specs.Programs.{ask, advance, Program, after_steps, RunsOn}
 use Rattle.ick_backtrack.specs.Asked.{finished, at_limit, IsGoing}
 use Rattle.ick_explorer.specs.Runs.{ends}
 use Rattle.ick_explorer.specs.Order.{IsBelow}
 use Rattle.ick_outcomes.specs.Tallies.{Test, Tally, lesser, none, join, after, one, tally, stop_text}
 use Rattle.ick_outcomes.specs.Summaries.{Row}
-use Rattle.ick_outcomes.specs.Accounts.{Pending, ahead, all_ahead, joined, counted_if, counted, all_counted}
-use Rattle.ick_outcomes.specs.Accounts.{AreApart, AreDistinct, Admits, Counts, Settles, SettlesAll, CanMerge}
-use Rattle.ick_outcomes.specs.Accounts.{chosen, IsAccount, AreBelow, IsMostLeft, Makes}
+use Rattle.ick_outcomes.specs.Accounts.{Pending, ahead, joined, counted_if, counted}
+use Rattle.ick_outcomes.specs.Accounts.{AreApart, AreDistinct, Admits, Counts, CanMerge, chosen}
 use Rattle.ick_outcomes.proofs.Algebra.{join-none, none-join, join-swap, join-assoc, after-merge, after-choice}
 use Rattle.ick_outcomes.proofs.Algebra.{after-pass, after-none}
 use Rattle.ick_outcomes.proofs.Algebra.{same_tally, lesser-swap}
@@ -31,8 +30,13 @@ joined-push f (y ∷ xs) x =
     ∙ (sym (join-assoc (f y) (f x) (joined f xs))
     ∙ (ap (λ t. join t (joined f xs)) (join-swap (f y) (f x)) ∙ join-assoc (f x) (f y) (joined f xs)))
 
+pub joined-append : {A : Type 0} (f : A → Tally) (xs ys : List A) →
+    joined f (xs ++ ys) ≡ join (joined f xs) (joined f ys)
+joined-append f [] ys = sym (none-join (joined f ys))
+joined-append f (x ∷ xs) ys = ap (join (f x)) (joined-append f xs ys) ∙ sym (join-assoc (f x) (joined f xs) (joined f ys))
+
 -- an element is replaced by one that has another tally too
-joined-set : {A : Type 0} (f : A → Tally) (xs : List A) (i : ℕ) (x y : A) (more : Tally) → slice_get xs i ≡ Some x →
+pub joined-set : {A : Type 0} (f : A → Tally) (xs : List A) (i : ℕ) (x y : A) (more : Tally) → slice_get xs i ≡ Some x →
     join more (f x) ≡ f y → joined f (slice_set xs i y) ≡ join more (joined f xs)
 joined-set f [] i x y more h e = let z : None ≡ Some x = h in cc
 joined-set f (m ∷ xs) zero x y more h e =
@@ -44,60 +48,38 @@ joined-set f (m ∷ xs) (suc i) x y more h e =
     ∙ (sym (join-assoc (f m) more (joined f xs))
     ∙ (ap (λ t. join t (joined f xs)) (join-swap (f m) more) ∙ join-assoc more (f m) (joined f xs)))
 
-pub below-push : (most : ℕ) (ns : List Pending) (n : Pending) → n.left < most → AreBelow most ns →
-    AreBelow most (ns ++ n ∷ [])
-below-push most [] n lt h = (lt, tt)
-below-push most (x ∷ ns) n lt h = (h.0, below-push most ns n lt h.1)
-
 pub admits-push : (ns : List Pending) (n : Pending) → Admits ns n (ns ++ n ∷ [])
-admits-push ns n = record {
-  admitted = λ q. joined-push (ahead q) ns n;
-  below = λ most lt h. below-push most ns n lt h;
-}
-
-below-set : (most : ℕ) (ns : List Pending) (i : ℕ) (x y : Pending) → slice_get ns i ≡ Some x →
-    y.left ≡ x.left → AreBelow most ns → AreBelow most (slice_set ns i y)
-below-set most [] i x y h e k = tt
-below-set most (m ∷ ns) zero x y h e k =
-    let z : m ≡ x = cc in
-    (subst (λ l. l < most) (ap (λ n. n.left) z ∙ sym e) k.0, k.1)
-below-set most (m ∷ ns) (suc i) x y h e k = (k.0, below-set most ns i x y h e k.1)
+admits-push ns n = λ q. joined-push (ahead q) ns n
 
 -- whose choices come before those of the new node
 pub admits-below : (ns : List Pending) (i : ℕ) (x n y : Pending) → slice_get ns i ≡ Some x →
     x.at ≡ n.at → x.left ≡ n.left → IsBelow x.choices n.choices →
     y ≡ record x { count = x.count + n.count; weight = x.weight + n.weight } → Admits ns n (slice_set ns i y)
-admits-below ns i x n y h same left below e = record {
-  admitted = λ q.
-      let t = tally x.at.program x.at.state x.left q in
-      let u : tally n.at.program n.at.state n.left q ≡ t =
-      ap (λ z. tally z.program z.state n.left q) (sym same)
-      ∙ ap (λ z. tally x.at.program x.at.state z q) (sym left) in
-      joined-set (ahead q) ns i x y (ahead q n) h
-      (ap (λ z. join (after n.count n.weight n.choices z) (after x.count x.weight x.choices t)) u
-      ∙ (join-swap (after n.count n.weight n.choices t) (after x.count x.weight x.choices t)
-      ∙ (after-merge x.count n.count x.weight n.weight x.choices n.choices t below
-      ∙ ap (λ z. ahead q z) (sym e))));
-  below = λ most lt k. below-set most ns i x y h (ap (λ z. z.left) e) k;
-}
+admits-below ns i x n y h same left below e = λ q.
+    let t = tally x.at.program x.at.state x.left q in
+    let u : tally n.at.program n.at.state n.left q ≡ t =
+    ap (λ z. tally z.program z.state n.left q) (sym same)
+    ∙ ap (λ z. tally x.at.program x.at.state z q) (sym left) in
+    joined-set (ahead q) ns i x y (ahead q n) h
+    (ap (λ z. join (after n.count n.weight n.choices z) (after x.count x.weight x.choices t)) u
+    ∙ (join-swap (after n.count n.weight n.choices t) (after x.count x.weight x.choices t)
+    ∙ (after-merge x.count n.count x.weight n.weight x.choices n.choices t below
+    ∙ ap (λ z. ahead q z) (sym e))))
 
 -- or after them
 pub admits-above : (ns : List Pending) (i : ℕ) (x n y : Pending) → slice_get ns i ≡ Some x →
     x.at ≡ n.at → x.left ≡ n.left → IsBelow n.choices x.choices →
     y ≡ record x { count = n.count + x.count; weight = n.weight + x.weight; choices = n.choices } →
     Admits ns n (slice_set ns i y)
-admits-above ns i x n y h same left below e = record {
-  admitted = λ q.
-      let t = tally x.at.program x.at.state x.left q in
-      let u : tally n.at.program n.at.state n.left q ≡ t =
-      ap (λ z. tally z.program z.state n.left q) (sym same)
-      ∙ ap (λ z. tally x.at.program x.at.state z q) (sym left) in
-      joined-set (ahead q) ns i x y (ahead q n) h
-      (ap (λ z. join (after n.count n.weight n.choices z) (after x.count x.weight x.choices t)) u
-      ∙ (after-merge n.count x.count n.weight x.weight n.choices x.choices t below
-      ∙ ap (λ z. ahead q z) (sym e)));
-  below = λ most lt k. below-set most ns i x y h (ap (λ z. z.left) e) k;
-}
+admits-above ns i x n y h same left below e = λ q.
+    let t = tally x.at.program x.at.state x.left q in
+    let u : tally n.at.program n.at.state n.left q ≡ t =
+    ap (λ z. tally z.program z.state n.left q) (sym same)
+    ∙ ap (λ z. tally x.at.program x.at.state z q) (sym left) in
+    joined-set (ahead q) ns i x y (ahead q n) h
+    (ap (λ z. join (after n.count n.weight n.choices z) (after x.count x.weight x.choices t)) u
+    ∙ (after-merge n.count x.count n.weight x.weight n.choices x.choices t below
+    ∙ ap (λ z. ahead q z) (sym e)))
 
 pub contains-push : {A : Type 0} (xs : List A) (x y : A) → Contains (xs ++ x ∷ []) y → Contains xs y ⊎ (x ≡ y)
 contains-push [] x y m = elim (contains-cases x y [] m) [ inl e ↦ inr e | inr n ↦ absurd (contains-nil y n) ]
@@ -263,100 +245,9 @@ ahead-runs q n k u h le =
     ap (λ x. after n.count n.weight n.choices (tally n.at.program n.at.state x q)) e
     ∙ ahead-steps n.at.program n.at.state u k l n.count n.weight n.choices q h
 
-pub settles-admits : (n : Pending) (ns ns' : List Pending) (rs : List Row) → Admits ns n ns' →
-    Settles n ns rs ns' rs
-settles-admits n ns ns' rs h = record {
-  settled = λ q. ap (λ t. join t (all_counted q rs)) (h.admitted q)
-      ∙ join-assoc (ahead q n) (all_ahead q ns) (all_counted q rs);
-  apart = λ d. d;
-  below = h.below;
-}
-
 -- b moves to the front
 pub join-front : (a b c : Tally) → join a (join b c) ≡ join b (join a c)
 join-front a b c = sym (join-assoc a b c) ∙ (ap (λ t. join t c) (join-swap a b) ∙ join-assoc b a c)
-
-pub settles-counts : (n : Pending) (ns : List Pending) (rs rs' : List Row) (r : Row) →
-    ((q : Test) → ahead q n ≡ counted q r) → Counts rs r rs' → Settles n ns rs ns rs'
-settles-counts n ns rs rs' r f h = record {
-  settled = λ q. ap (join (all_ahead q ns)) (h.added q)
-      ∙ (join-front (all_ahead q ns) (counted q r) (all_counted q rs)
-      ∙ ap (λ t. join t (join (all_ahead q ns) (all_counted q rs))) (sym (f q)));
-  apart = h.apart;
-  below = λ most lt b. b;
-}
-
-pub settles-like : (n m : Pending) (ns ns' : List Pending) (rs rs' : List Row) →
-    ((q : Test) → ahead q n ≡ ahead q m) → m.left ≤ n.left → Settles m ns rs ns' rs' → Settles n ns rs ns' rs'
-settles-like n m ns ns' rs rs' f le h = record {
-  settled = λ q. h.settled q ∙ ap (λ t. join t (join (all_ahead q ns) (all_counted q rs))) (sym (f q));
-  apart = h.apart;
-  below = λ most lt b. h.below most (omega (arith, le, lt)) b;
-}
-
-pub settles-both : (n a b : Pending) (ns ns' ns'' : List Pending) (rs rs' rs'' : List Row) →
-    ((q : Test) → ahead q n ≡ join (ahead q a) (ahead q b)) →
-    a.left < n.left → b.left < n.left →
-    Settles a ns rs ns' rs' → Settles b ns' rs' ns'' rs'' → Makes n.left n ns rs ns'' rs''
-settles-both n a b ns ns' ns'' rs rs' rs'' f u v h k = record {
-  settled = λ q. k.settled q
-      ∙ (ap (join (ahead q b)) (h.settled q)
-      ∙ (sym (join-assoc (ahead q b) (ahead q a) (join (all_ahead q ns) (all_counted q rs)))
-      ∙ (ap (λ t. join t (join (all_ahead q ns) (all_counted q rs)))
-      (join-swap (ahead q b) (ahead q a) ∙ sym (f q)))));
-  apart = λ d. k.apart (h.apart d);
-  fewer = λ le d. k.below n.left v (h.below n.left u d);
-}
-
-pub below-last : (most : ℕ) (ns : List Pending) (n : Pending) → AreBelow most (ns ++ n ∷ []) →
-    AreBelow most ns × (n.left < most)
-below-last most [] n h = (tt, h.0)
-below-last most (x ∷ ns) n h = let i = below-last most ns n h.1 in ((h.0, i.0), i.1)
-
-pub below-more : (a b : ℕ) (ns : List Pending) → a ≤ b → AreBelow a ns → AreBelow b ns
-below-more a b [] le h = tt
-below-more a b (n ∷ ns) le h = let lt = h.0 in (omega (arith, lt, le), below-more a b ns le h.1)
-
-pub settles-more : (most : ℕ) (ms : List Pending) (n : Pending) (ns ns' ns'' : List Pending) (rs rs' rs'' : List Row) →
-    SettlesAll most ms ns rs ns' rs' → Makes most n ns' rs' ns'' rs'' →
-    SettlesAll most (ms ++ n ∷ []) ns rs ns'' rs''
-settles-more most ms n ns ns' ns'' rs rs' rs'' h k = record {
-  settled = λ q. k.settled q
-      ∙ (ap (join (ahead q n)) (h.settled q)
-      ∙ (sym (join-assoc (ahead q n) (all_ahead q ms) (join (all_ahead q ns) (all_counted q rs)))
-      ∙ ap (λ t. join t (join (all_ahead q ns) (all_counted q rs))) (sym (joined-push (ahead q) ms n))));
-  apart = λ d. k.apart (h.apart d);
-  fewer = λ a b.
-      let i = below-last (suc most) ms n a in
-      let lt = i.1 in
-      k.fewer (omega (arith, lt)) (h.fewer i.0 b);
-}
-
-pub settles-none : (most : ℕ) (ns : List Pending) (rs : List Row) → SettlesAll most [] ns rs ns rs
-settles-none most ns rs = record {
-  settled = λ q. sym (none-join (join (all_ahead q ns) (all_counted q rs)));
-  apart = λ d. d;
-  fewer = λ a b. b;
-}
-
-pub account-goes_on : (n : Pending) (ns ns' : List Pending) (rs rs' : List Row) (m most m' : ℕ) →
-    IsAccount n ns rs m → IsMostLeft most ns → SettlesAll most ns [] rs ns' rs' → m ≤ m' + 1 →
-    IsAccount n ns' rs' m'
-account-goes_on n ns ns' rs rs' m most m' h i k le = record {
-  whole = λ q. h.whole q ∙ sym (k.settled q ∙ ap (join (all_ahead q ns)) (none-join (all_counted q rs)));
-  apart = k.apart h.apart;
-  below =
-      let below = below-more m (suc m') ns (omega (arith, le)) h.below in
-      below-more most m' ns' (i.reached m' below) (k.fewer i.highest tt);
-}
-
-pub account-starts : (n : Pending) (ns : List Pending) (rs : List Row) (m : ℕ) → n.left < m →
-    Settles n [] [] ns rs → IsAccount n ns rs m
-account-starts n ns rs m lt h = record {
-  whole = λ q. sym (h.settled q ∙ join-none (ahead q n));
-  apart = h.apart tt;
-  below = h.below m lt tt;
-}
 
 -- a node is merged into another one
 pub admits-merge : (ns : List Pending) (i : ℕ) (x n y : Pending) → slice_get ns i ≡ Some x → CanMerge x n →

@@ -1,9 +1,8 @@
--- Defines the invariant of the search for outcomes: each run is in one of its rows, or goes on from one of its nodes.
-use Rattle.std.specs.Prelude.{◌≡◌, ◌⊎◌, ℕ, suc, ◌*◌, ◌^◌, ◌-◌, ◌<◌, ◌≤◌, Bool, true, false, List, [], ◌∷◌, ◌++◌, Some}
+-- Defines which runs nodes and rows represent, and how a step changes nodes and rows.
+use Rattle.std.specs.Prelude.{◌≡◌, ◌⊎◌, ℕ, ◌*◌, ◌^◌, ◌-◌, ◌≤◌, Bool, true, false, List, [], ◌∷◌, ◌++◌, Some}
 use Rattle.std.specs.List.{Contains}
 use Rattle.ick_code.specs.meaning.State.{State}
-use Rattle.ick_code.specs.meaning.Move.{choice}
-use Rattle.ick_outcomes.specs.Programs.{ask, advance, Program}
+use Rattle.ick_outcomes.specs.Programs.{advance, Program}
 use Rattle.ick_explorer.specs.Lines.{end_text}
 use Rattle.ick_explorer.specs.Order.{IsBelow}
 use Rattle.ick_backtrack.specs.Asked.{Finish}
@@ -55,10 +54,6 @@ all_counted q rs = joined (counted q) rs
 abbrev pub any_outcome : Test
 any_outcome = λ output end. true
 
--- the number of runs that go on from these nodes or are in these rows
-abbrev pub runs_in : List Pending → List Row → ℕ
-runs_in ns rs = (join (all_ahead any_outcome ns) (all_counted any_outcome rs)).count
-
 -- two rows have different outcomes
 abbrev pub AreApart : Row → Row → Type 0
 AreApart r x = r.output ≡ x.output → r.end ≡ x.end → ⊥
@@ -73,50 +68,14 @@ abbrev pub AreOrdered : List Row → Type 0
 AreOrdered [] = Unit {0}
 AreOrdered (r ∷ rs) = ((x : Row) → Contains rs x → lesser r.first x.first ≡ r.first) × AreOrdered rs
 
--- each node has fewer than `most` steps left
-abbrev pub AreBelow : ℕ → List Pending → Type 0
-AreBelow most [] = Unit {0}
-AreBelow most (n ∷ ns) = (n.left < most) × AreBelow most ns
-
--- the greatest number of steps that a node has left, or 0 if there is no node
-pub record IsMostLeft (most : ℕ) (ns : List Pending) : Type 0 where
-  pub highest : AreBelow (suc most) ns
-  pub reached : (m : ℕ) → AreBelow (suc m) ns → most ≤ m
-
 -- a node was added to nodes, or merged into one of them
-pub record Admits (old : List Pending) (n : Pending) (new : List Pending) : Type 0 where
-  pub admitted : (q : Test) → all_ahead q new ≡ join (ahead q n) (all_ahead q old)
-  pub below : (most : ℕ) → n.left < most → AreBelow most old → AreBelow most new
+abbrev pub Admits : List Pending → Pending → List Pending → Type 0
+Admits old n new = (q : Test) → all_ahead q new ≡ join (ahead q n) (all_ahead q old)
 
 -- the runs of a row were added to rows
 pub record Counts (old : List Row) (r : Row) (new : List Row) : Type 0 where
   pub added : (q : Test) → all_counted q new ≡ join (counted q r) (all_counted q old)
   pub apart : AreDistinct old → AreDistinct new
-
--- all runs from a node were added to nodes and rows
-pub record Settles (n : Pending) (ns : List Pending) (rs : List Row) (ns' : List Pending) (rs' : List Row)
-    : Type 0 where
-  pub settled : (q : Test) → join (all_ahead q ns') (all_counted q rs')
-      ≡ join (ahead q n) (join (all_ahead q ns) (all_counted q rs))
-  pub apart : AreDistinct rs → AreDistinct rs'
-  pub below : (most : ℕ) → n.left < most → AreBelow most ns → AreBelow most ns'
-
--- the same; and if n has at most `most` steps left, each node that was added has fewer
-pub record Makes (most : ℕ) (n : Pending) (ns : List Pending) (rs : List Row) (ns' : List Pending)
-    (rs' : List Row) : Type 0 where
-  pub settled : (q : Test) → join (all_ahead q ns') (all_counted q rs')
-      ≡ join (ahead q n) (join (all_ahead q ns) (all_counted q rs))
-  pub apart : AreDistinct rs → AreDistinct rs'
-  pub fewer : n.left ≤ most → AreBelow most ns → AreBelow most ns'
-
--- all runs from the nodes `ms` were added to nodes and rows; and if each of `ms` has at most `most` steps left, each
--- node that was added has fewer
-pub record SettlesAll (most : ℕ) (ms : List Pending) (ns : List Pending) (rs : List Row) (ns' : List Pending)
-    (rs' : List Row) : Type 0 where
-  pub settled : (q : Test) → join (all_ahead q ns') (all_counted q rs')
-      ≡ join (all_ahead q ms) (join (all_ahead q ns) (all_counted q rs))
-  pub apart : AreDistinct rs → AreDistinct rs'
-  pub fewer : AreBelow (suc most) ms → AreBelow most ns → AreBelow most ns'
 
 -- two nodes have the same configuration and the same number of steps left, and their choices differ
 pub record CanMerge (x n : Pending) : Type 0 where
@@ -139,12 +98,6 @@ pub record SameRow (x r : Row) : Type 0 where
   pub same_output : x.output ≡ r.output
   pub same_end : x.end ≡ r.end
 
--- the runs from n are those of these nodes and rows, and each node has fewer than `most` steps left
-pub record IsAccount (n : Pending) (ns : List Pending) (rs : List Row) (most : ℕ) : Type 0 where
-  pub whole : (q : Test) → ahead q n ≡ join (all_ahead q ns) (all_counted q rs)
-  pub apart : AreDistinct rs
-  pub below : AreBelow most ns
-
 -- the same runs go on from two nodes, and the second has no more steps left
 pub record GoesOn (n m : Pending) : Type 0 where
   pub same_runs : (q : Test) → ahead q n ≡ ahead q m
@@ -163,10 +116,6 @@ ended_row n finish = record {
 -- the runs that lead to a node end there
 pub record AreOver (n : Pending) (finish : Finish) : Type 0 where
   pub same_runs : (q : Test) → ahead q n ≡ counted q (ended_row n finish)
-
--- a node asks for a choice of a statement with this chance
-pub record IsChoosing (n : Pending) (chance : ℕ) : Type 0 where
-  pub asked : ask n.at.program n.at.state ≡ choice chance
 
 -- all runs from s are in rows with different outcomes
 pub record AreCounted (p : Program) (s : State) (limit : ℕ) (rs : List Row) : Type 0 where

@@ -5,6 +5,7 @@ pub mod Summaries
 pub mod Accounts
 pub mod Packed
 pub mod Seen
+pub mod Searches
 pub mod Fractions
 pub mod Texts
 pub mod Keys

@@ -1,6 +1,5 @@
 -- Defines what contracts see of numbers, outcomes and nodes.
-use Rattle.std.specs.Prelude.{ℕ, List, map}
-use Rattle.std.specs.List.{All}
+use Rattle.std.specs.Prelude.{List, map}
 use Rattle.ick_numbers.specs.Values.{natural}
 use Rattle.ick_outcomes.specs.Packed.{choices_of}
 use Rattle.ick_outcomes.specs.Accounts.{Configuration, Pending}
@@ -35,7 +34,3 @@ rows_of os = map row_of os
 
 abbrev pub nodes_of : {S : Type 0} → (S → Configuration) → List (Node S) → List Pending
 nodes_of seen ns = map (pending_of seen) ns
-
--- the state of each node suits
-abbrev pub AreSound : {S : Type 0} → (S → Type 0) → List (Node S) → Type 0
-AreSound suits ns = All (λ n. suits n.state) ns

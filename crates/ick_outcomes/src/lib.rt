@@ -6,9 +6,10 @@
 //! |---|---|
 //! | `states` | the trait of programs whose states can be copied and compared |
 //! | `sorting` | the summary: all outcomes in order |
-//! | `search` | the search for all outcomes |
-//! | `errors` | the refusals of a search |
-//! | `pending`, `node`, `hints` | nodes, their steps, and how equal ones are found and merged |
+//! | `counting`, `errors` | the search for all outcomes, and its refusals |
+//! | `search`, `steps` | what a search keeps, and how a node makes its steps |
+//! | `pending`, `node` | nodes, and those to which their steps lead |
+//! | `bucket`, `hints` | nodes that wait, and how equal ones are found and merged |
 //! | `outcome`, `table`, `filing`, `index` | outcomes, and how runs are added to them |
 //! | `choices`, `comparing` | lists of choices, packed and one by one, and their order |
 //! | `following` | one run, and the statements that asked for its choices |
@@ -17,8 +18,10 @@
 //! | `laws` | laws of all summaries |
 #![tactic(auto)]
 
+mod bucket;
 mod choices;
 mod comparing;
+mod counting;
 mod cut;
 mod errors;
 mod filing;
@@ -35,6 +38,7 @@ mod quoting;
 mod search;
 mod sorting;
 mod states;
+mod steps;
 mod table;
 mod text;
 

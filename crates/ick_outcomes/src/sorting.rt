@@ -7,9 +7,9 @@ ghost use Rattle.ick_outcomes.specs.Summaries.{CountsAll, HasMoreRuns, IsSummary
 ghost use Rattle.ick_outcomes.specs.Summaries.{count_of, weight_of};
 ghost use Rattle.ick_outcomes.specs.Weights.{whole};
 
+use crate::counting::count_outcomes;
 use crate::errors::OutcomesError;
 use crate::outcome::Outcome;
-use crate::search::count_outcomes;
 use crate::states::States;
 use ick_bits::NoMemory;
 use std::alloc::Global;
