@@ -23,14 +23,13 @@ use crate::errors::ChainError;
 use crate::listing::unsearched;
 use crate::numbered::are_numbered;
 use crate::progress::Progress;
-use crate::rows::end_word;
 use crate::search::asked;
 use crate::stretched::are_stretched;
 use crate::weight_text::part_text;
 use ick_backtrack::{Ask, End};
 use ick_bits::{NoMemory, append_decimal, append_quoted};
 use ick_numbers::Natural;
-use ick_outcomes::States;
+use ick_outcomes::{States, end_word};
 use std::alloc::Global;
 
 /// Appends `edge FROM CHOICE TO CHANCE STEPS`.

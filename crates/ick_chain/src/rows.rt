@@ -23,29 +23,10 @@ use crate::row::Row;
 use crate::search::asked;
 use crate::ways::Rank;
 use ick_backtrack::{Ask, End};
-use ick_bits::{NoMemory, append_decimal};
+use ick_bits::NoMemory;
 use ick_numbers::Natural;
-use ick_outcomes::States;
-use smallvec::SmallVec;
+use ick_outcomes::{States, end_word};
 use std::alloc::Global;
-
-/// Returns the text of an end.
-pub(crate) fn end_word(alloc: Global, end: End<'_>) -> Result<SmallVec<u8, 16>, NoMemory>
-    ensures { IfOk result (λ word. word.items ≡ end_text (finish_of end.entry)) }
-{
-    match end {
-        End::GiveUp => Ok(SmallVec::from_slice(alloc, b"GIVE-UP")?),
-        End::Limit => Ok(SmallVec::from_slice(alloc, b"LIMIT")?),
-        End::Fault(fault) => {
-            let mut out = Vec::new(alloc);
-            out.push(b'E')?;
-            out.extend_from_slice(&fault.kind.digits())?;
-            out.push(b'@')?;
-            append_decimal(&mut out, u64::from(fault.statement))?;
-            Ok(SmallVec::from_vec(out))
-        }
-    }
-}
 
 /// Returns the rank at an index, or the greatest if there is none.
 fn rank_at(ranks: &[Rank], at: usize) -> Rank

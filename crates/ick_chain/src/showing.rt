@@ -17,7 +17,6 @@ use crate::chain::Node;
 use crate::errors::ChainError;
 use crate::products::are_equal;
 use crate::row::Row;
-use crate::rows::end_word;
 use crate::search::asked;
 use crate::visits::is_stuck;
 use crate::walking::leads;
@@ -25,7 +24,7 @@ use crate::ways::Ways;
 use ick_backtrack::{Ask, End};
 use ick_bits::NoMemory;
 use ick_numbers::Natural;
-use ick_outcomes::States;
+use ick_outcomes::{States, end_word};
 use std::alloc::Global;
 
 /// Returns true only if the output of a state and the text of an end are those of a row.

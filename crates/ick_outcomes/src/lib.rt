@@ -49,7 +49,7 @@ pub use fraction::Fraction;
 pub use hints::Hints;
 pub use laws::{one_summary, runs_are_heard, weights_are_products};
 pub use lines::{summary_text, total_text};
-pub use outcome::Outcome;
+pub use outcome::{Outcome, end_word};
 pub use sorting::outcomes;
 pub use states::States;
 pub use text::{fraction_text, number_text};

@@ -36,8 +36,8 @@ pub struct Outcome {
     pub first: SmallVec<bool, 24>,
 }
 
-/// Returns the text of an end.
-pub(crate) fn end_word(alloc: Global, end: End<'_>) -> Result<SmallVec<u8, 16>, NoMemory>
+/// Returns the text of an end, as a listing shows it.
+pub fn end_word(alloc: Global, end: End<'_>) -> Result<SmallVec<u8, 16>, NoMemory>
     ensures { IfOk result (λ word. word.items ≡ end_text (finish_of end.entry)) }
 {
     match end {
