@@ -2,8 +2,7 @@
 use Prim.Native.Nat.{zero, suc}
 use Rattle.std.proofs.Common.{◌≡◌, ℕ, ◌+◌, ◌<◌, ◌≤◌, List, [], ◌∷◌, map, take, length, get_or, refl, ap, sym, ◌∙◌, arith}
 use Rattle.std.specs.List.{fold}
-use Rattle.std.specs.Prelude.{Bool, false, ◌*◌, ◌/◌, ◌%◌, ◌-◌, drop, nat_le, slice_index, if◌then◌else◌}
-use Rattle.std.proofs.lemmas.Bool.Decides.{nat_tests}
+use Rattle.std.specs.Prelude.{Bool, false, ◌*◌, ◌/◌, ◌%◌, ◌-◌, drop, slice_index, if◌then◌else◌}
 use Rattle.std.proofs.lemmas.List.{drop_all, drop_more, length-map}
 use Rattle.ick_runtime.specs.Status.{is_abstained}
 use Rattle.ick_states.specs.Hashed.{mix, mix_pairs, mix_places, pair}

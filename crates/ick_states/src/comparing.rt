@@ -52,12 +52,13 @@ fn same_abstained(one: &[Status], other: &[Status]) -> bool
     if one.len() != other.len() {
         return false;
     }
+    let mut same = true;
     for at in 0..one.len() {
         if one[at].is_abstained() != other[at].is_abstained() {
-            return false;
+            same = false;
         }
     }
-    true
+    same
 }
 
 /// Returns whether the parts that few instructions change are the same. The input has so many
