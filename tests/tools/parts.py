@@ -106,7 +106,7 @@ class Case:
 
     def finishes(self, text):
         """Plans and lists the rest, and compares the whole."""
-        for _ in range(9):
+        for _ in range(30):
             count = self.plan(3)
             if count == 0:
                 break
