@@ -1,10 +1,9 @@
 -- How many elements an array has by its dimensions, as far as 65,537.
-use Rattle.std.proofs.Common.{◌≡◌, ℕ, ◌*◌, ◌<◌, ◌≤◌, ◌==◌, ◌≢◌, ◌∙◌, List, [], map, slice_set, true, ◌∷◌, ap, arith, drop, false, get_or, if◌then◌else◌, length, min, mul_assoc, None, rules, Some, suc, sym, zero, ◌+◌}
-use Rattle.std.{proofs.{lemmas.Grind.common_steps, Math.Seq.{drop-cons, map-set_same}}, specs.List.list_any}
+use Rattle.std.proofs.Common.{◌≡◌, ℕ, ◌*◌, ◌<◌, ◌≤◌, ◌==◌, ◌≢◌, ◌∙◌, List, [], ◌∷◌, ap, arith, drop, get_or, length, min, mul_assoc, None, rules, Some, suc, sym, zero, ◌+◌}
+use Rattle.std.{proofs.{lemmas.Grind.common_steps, Math.Seq.{drop-cons}}, specs.List.list_any}
 use Rattle.ick_bits.specs.declared.faults.FaultKind.TheVariants.{ZeroDimension, Hyperspace}
 use Rattle.ick_code.specs.meaning.Value.{product}
-use Rattle.ick_runtime.proofs.{Names.{Array, array_of, get_or-map, is_hidden, reg}, DimensionLemmas.sizes}
-use Rattle.ick_runtime.specs.{declared.memory.Array.Array as Kept, Sizes.sizes_fault}
+use Rattle.ick_runtime.{proofs.{Names.reg, DimensionLemmas.sizes}, specs.Sizes.sizes_fault}
 
 more : (p d : ℕ) → 1 ≤ d → p ≤ p * d
 more = search rules
@@ -58,11 +57,5 @@ next_count subscripts registers i count d within is before =
     ∙ ap (λ n. min (count * (n * rest)) 65537) is
     ∙ ap (λ l. min (count * product l) 65537) (sym (next_size subscripts registers i within))
     ∙ before
-
--- an array that is ignored stays as it is
-pub stays_hidden : (all : List Kept) (slot : ℕ) (r : Kept) → r ≡ get_or all slot r → slot < length all →
-    r.hidden ≡ true → (new : List Array) →
-    map array_of (slice_set all slot r) ≡ (if get_or (map is_hidden all) slot false then map array_of all else new)
-stays_hidden all slot r here within hidden new = search (rules, get_or-map, map-set_same)
 
 pub ruleset sized = (zero_size, large_size, no_fault)

@@ -1,5 +1,5 @@
 -- Changes of parts that were noted.
-use Rattle.std.proofs.{Common.{◌≡◌, ℕ, Bool, List, rules, arith, slice_set}, lemmas.Grind.common_steps}
+use Rattle.std.proofs.{Common.{◌≡◌, ℕ, List, rules, arith, slice_set}, lemmas.Grind.common_steps}
 use Rattle.ick_code.specs.meaning.State.{Array}
 use Rattle.ick_runtime.specs.{declared.change.ArrayChange.TheVariants.Replaced, View.View, View.Parts}
 use Rattle.ick_runtime.specs.Noting.{KeepsNotes, NotesParts, NotesBefore}
@@ -28,8 +28,7 @@ module _ {N : Type 0} {Undoes : N → ℕ → View → View → Type 0} {low : N
 -- arrays that were noted behind
 module _ {N : Type 0} {Undoes : N → ℕ → View → View → Type 0} {low : N → ℕ} {fixed : N → Fixed}
     {changes : N → List Change} {first mid last : N} {old new : Parts} (noted : NotesParts Undoes low fixed changes first mid old new) where
-  pub arrays_noted : (arrays : List Array) (hidden : List Bool) → KeepsNotes low fixed changes mid last →
-      hidden ≡ new.hidden → ((k : ℕ) (v m : View) → v.parts.arrays ≡ new.arrays → Undoes mid k v m →
-      Undoes last k (with_arrays arrays v) m) →
-      NotesParts Undoes low fixed changes first last old (record new { arrays = arrays; hidden = hidden })
-  arrays_noted arrays hidden more kept change = grind (arith, common_steps)
+  pub arrays_noted : (arrays : List Array) → KeepsNotes low fixed changes mid last →
+      ((k : ℕ) (v m : View) → v.parts.arrays ≡ new.arrays → Undoes mid k v m → Undoes last k (with_arrays arrays v) m) →
+      NotesParts Undoes low fixed changes first last old (record new { arrays = arrays })
+  arrays_noted arrays more change = grind (arith, common_steps)

@@ -1,11 +1,11 @@
 -- Bytes that are read into elements.
 use Rattle.std.proofs.Common.{◌≡◌, ℕ, zero, suc, ◌+◌, ◌<◌, Bool, true, false, List, [], ◌∷◌, ◌++◌, slice_set}
-use Rattle.std.proofs.Common.{if◌then◌else◌, length, drop, get_or, map, Option, Some, None, refl, sym, ap, ap₂, ◌∙◌}
-use Rattle.std.proofs.{Common.{arith, rules, length-drop}, lemmas.Grind.common_steps, Math.Seq.{drop-nil, map-set_same}}
-use Rattle.std.proofs.lemmas.List.{drop-drop, get_or-map, map-set}
+use Rattle.std.proofs.Common.{if◌then◌else◌, length, drop, get_or, Option, Some, None, refl, sym, ap, ap₂, ◌∙◌}
+use Rattle.std.proofs.{Common.{arith, length-drop}, lemmas.Grind.common_steps, Math.Seq.{drop-nil}}
+use Rattle.std.proofs.lemmas.List.{drop-drop, get_or_default}
 use Rattle.ick_bits.specs.Tape.{tape_difference}
 use Rattle.ick_code.specs.meaning.{State.{no_array, Array}, Tape.{tape_numbers, last_read, with_elements}}
-use Rattle.ick_runtime.specs.{declared.memory.Array.Array as Kept, Inputs.Input, View.{Parts, array_of, is_hidden}}
+use Rattle.ick_runtime.{proofs.ArrayLists.put_same, specs.Inputs.Input}
 use Rattle.ick_engine.specs.Reads.{IsByte, HasRead, number_read, last_after, position_after}
 
 -- one more byte, or the end
@@ -73,24 +73,19 @@ read_next stays count lastin from old now new last last' to to' byte before mid 
     }
 
 -- an array gets these elements, unless it is ignored
-pub array_filled : (all : List Kept) (slot : ℕ) (e r : Kept) (numbers : List ℕ) → slot < length all →
-    r ≡ get_or all slot r → e.dimensions.items ≡ r.dimensions.items →
-    e.elements.items ≡ (if r.hidden then r.elements.items else numbers) →
-    map array_of (slice_set all slot e)
-    ≡ (if get_or (map is_hidden all) slot false then map array_of all
-    else slice_set (map array_of all) slot (with_elements (get_or (map array_of all) slot no_array) numbers))
-array_filled all slot e r numbers within here dimensions elements = search (rules, get_or-map, map-set, map-set_same)
+pub array_filled : (all : List Array) (slot : ℕ) (hidden : Bool) (e r : Array) (numbers : List ℕ) → slot < length all →
+    r ≡ get_or all slot r → e.dimensions ≡ r.dimensions → e.elements ≡ (if hidden then r.elements else numbers) →
+    slice_set all slot e
+    ≡ (if hidden then all else slice_set all slot (with_elements (get_or all slot no_array) numbers))
+array_filled all slot true e r numbers within here dimensions elements =
+    let same : e ≡ r = cc (dimensions, elements) in ap (slice_set all slot) same ∙ put_same all slot r here
+array_filled all slot false e r numbers within here dimensions elements =
+    let was : r ≡ get_or all slot no_array = here ∙ get_or_default all slot r no_array within in
+    let same : e ≡ with_elements r numbers = cc (dimensions, elements) in
+    ap (slice_set all slot) (same ∙ ap (λ a. with_elements a numbers) was)
 
 -- all elements were read
 pub all_read : (stays : Bool) (count lastin from : ℕ) (old new : List ℕ) (last to : ℕ) (before after : Input) →
     count ≡ length old → HasRead stays count lastin from old new last to before after →
     new ≡ (if stays then old else tape_numbers (length old) lastin (before.left from))
 all_read stays count lastin from old new last to before after all read = grind (arith, common_steps)
-
--- parts that differ in nothing but arrays and input
-pub others_by : (p : Parts) (arrays : List Array) (hidden : List Bool) (taken lastin : ℕ) → hidden ≡ p.hidden →
-    ◌≡◌ {A = Parts} (record p { arrays = arrays; hidden = hidden; taken = taken; lastin = lastin })
-    (record p { arrays = arrays; taken = taken; lastin = lastin })
-others_by p arrays hidden taken lastin same = search rules
-
-pub ruleset other_parts = (map-set_same, others_by)

@@ -26,10 +26,10 @@ pub fn print_number<N: Notes>(rest: &mut Parts, notes: &mut N, number: u32) -> R
 /// Appends the bytes of elements to the output. Returns the position of the tape after them. If
 /// memory runs out, the output doesn't change.
 #[inline(always)]
-fn append_elements(output: &mut Vec<u8>, last: u8, elements: &Vec<u32>) -> Result<u8, NoMemory>
+fn append_elements(output: &mut Vec<u8>, last: u8, elements: &[u32]) -> Result<u8, NoMemory>
     ensures output { OnOk result (output.new.items ≡ output.old.items ++ tape_bytes last
-        elements.now.items) }
-    ensures last { IfOk result (λ position. position ≡ tape_after last elements.now.items) }
+        elements.now) }
+    ensures last { IfOk result (λ position. position ≡ tape_after last elements.now) }
     ensures err { OnErr result (output.new.items ≡ output.old.items) }
 {
     output.reserve(elements.len())?;
@@ -60,12 +60,12 @@ pub fn print_array<N: Notes>(
         (parts_of rest.old) (parts_of rest.new) }
 {
     let array = &rest.arrays[slot as usize];
-    if array.dimensions.len() != 1 {
+    if array.dimensions().len() != 1 {
         return Err(Halt::Fault(FaultKind::Hyperspace));
     }
     notes.note(Entry::Output(rest.output.len()));
     notes.note(Entry::Last(rest.last));
     notes.make_room(longest)?;
-    rest.last = append_elements(&mut rest.output, rest.last, &array.elements)?;
+    rest.last = append_elements(&mut rest.output, rest.last, array.elements())?;
     Ok(())
 }

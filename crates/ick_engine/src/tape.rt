@@ -8,7 +8,7 @@ ghost use Rattle.ick_engine.specs.Text.{IsArrayRead};
 
 use crate::reader::Reader;
 use ick_bits::{FaultKind, NoMemory, tape_in};
-use ick_runtime::{ArrayChange, Entry, Halt, Notes, Parts};
+use ick_runtime::{Array, ArrayChange, Entry, Halt, Notes, Parts};
 
 /// Goes on behind a byte, or stays at the end of the input. Returns the number that an element gets
 /// from it. `to` is the position of the next byte, and `last` the byte that was read last.
@@ -27,26 +27,27 @@ fn take(byte: Option<(u8, usize)>, to: &mut usize, last: &mut u8) -> u32
     number
 }
 
-/// Reads bytes of the input into elements, unless these stay as they are. The input begins at `to`,
-/// and `last` is the byte before it. If the reader fails, some elements have changed.
+/// Reads bytes of the input into the elements of an array, unless these stay as they are. The input
+/// begins at `to`, and `last` is the byte before it. If the reader fails, some elements have changed.
 #[inline(always)]
 fn read_bytes<R: Reader>(
     stays: bool,
-    elements: &mut [u32],
+    array: &mut Array,
     reader: &mut R,
     to: &mut usize,
     last: &mut u8,
 ) -> Result<(), NoMemory>
-    ensures count { length elements.new ≡ length elements.old }
+    ensures dimensions { array.new.dimensions ≡ array.old.dimensions }
     ensures read { OnOk result (Leads R.Has reader.old reader.new (HasRead stays
-        (length elements.old) last.old to.old elements.old elements.new last.new to.new)) }
+        (length array.old.elements) last.old to.old array.old.elements array.new.elements last.new
+        to.new)) }
     ensures held { R.held reader.new ≡ R.held reader.old }
 {
-    for at in 0..elements.len() {
+    for at in 0..array.elements().len() as u32 {
         let byte = reader.byte(*to)?;
         let number = take(byte, to, last);
         if !stays {
-            elements[at] = number;
+            array.set_element(at, number);
         }
     }
     Ok(())
@@ -67,7 +68,6 @@ fn note_reading<N: Notes>(rest: &Parts, notes: &mut N, longest: usize) -> Result
 /// Reads a byte of the input into each element of an array of one dimension (Revised Manual, 5.2).
 /// An ignored array takes its bytes and stays as it is. If the reader fails, some elements have
 /// changed.
-#[tactic(auto, using(crate::proofs::TapeIn::other_parts))]
 #[inline(never)]
 pub fn read_array<N: Notes, R: Reader>(
     rest: &mut Parts,
@@ -77,6 +77,7 @@ pub fn read_array<N: Notes, R: Reader>(
     longest: usize,
 ) -> Result<(), Halt>
     requires slot { slot < length rest.old.arrays.items }
+    requires hidden { slot < length rest.old.hidden.items }
     requires room { 3 ≤ N.room notes.old }
     ensures read { Took R.Has reader.old reader.new result
         (IsArrayRead result slot (parts_of rest.old) (parts_of rest.new)) }
@@ -92,14 +93,13 @@ pub fn read_array<N: Notes, R: Reader>(
         (parts_of rest.old) (parts_of rest.new) }
 {
     let array = &rest.arrays[slot as usize];
-    if array.dimensions.len() != 1 {
+    if array.dimensions().len() != 1 {
         return Err(Halt::Fault(FaultKind::Hyperspace));
     }
     notes.note_array(ArrayChange::Replaced, slot, array)?;
     note_reading(rest, notes, longest)?;
     let array = &mut rest.arrays[slot as usize];
-    let elements = array.elements.as_mut_slice();
-    let taken = &mut rest.taken;
-    read_bytes(array.hidden, elements, reader, taken, &mut rest.lastin)?;
+    let stays = rest.hidden[slot as usize];
+    read_bytes(stays, array, reader, &mut rest.taken, &mut rest.lastin)?;
     Ok(())
 }

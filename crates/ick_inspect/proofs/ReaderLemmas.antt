@@ -10,7 +10,7 @@ use Rattle.ick_syntax.specs.declared.tree.Name.{Name}
 use Rattle.ick_code.specs.meaning.State.{same_name}
 use Rattle.ick_code.proofs.SameNames.{same_name_is}
 use Rattle.ick_runtime.proofs.Maps.{array_kind, map_of-get}
-use Rattle.ick_runtime.specs.View.{map_of, Stash, used}
+use Rattle.ick_runtime.specs.View.{map_of}
 
 pub map_of-absent : {A : Type 0} (names : List Name) (xs : List A) (none : A) (name : Name) →
     ((slot : ℕ) → slice_get names slot ≢ Some name) → map_of names xs none name ≡ none
@@ -32,17 +32,6 @@ map_of-map names f xs none slot name x once long at is =
     let within : slot < length xs = omega (arith, long, slice_get_within names slot name at) in
     map_of-get names (map f xs) none slot name none once (omega (arith, long, length-map xs f)) at
     ∙ get_or-map f xs slot x none within ∙ ap f (sym is)
-
--- and of one that is mapped twice
-pub map_of-used : {A B : Type 0} (names : List Name) (g : B → Stash A) (xs : List B) (slot : ℕ) (name : Name) (x : B) →
-    IsDistinct same_name names → length names ≤ length xs → slice_get names slot ≡ Some name →
-    x ≡ get_or xs slot x → map_of names (map used (map g xs)) [] name ≡ used (g x)
-map_of-used {A} names g xs slot name x once long at is =
-    let within : slot < length xs = omega (arith, long, slice_get_within names slot name at) in
-    map_of-get names (map used (map g xs)) [] slot name [] once
-    (omega (arith, long, length-map xs g, length-map (map g xs) (used {A = A}))) at
-    ∙ get_or-map used (map g xs) slot (g x) [] (omega (arith, within, length-map xs g))
-    ∙ ap used (get_or-map g xs slot x (g x) within ∙ ap g (sym is))
 
 -- for the parts of a state that a name has
 pub ruleset by_slots = (common_steps, map_of-get, map_of-map, map_of-absent, slice_get_within, array_kind)

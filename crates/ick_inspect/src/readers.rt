@@ -8,7 +8,7 @@ ghost use Rattle.std.specs.Prelude.{MatchOption, Some};
 ghost use Rattle.ick_syntax.specs.NameKinds.{is_array};
 ghost use Rattle.ick_code.specs.meaning.State.{same_name};
 ghost use Rattle.ick_runtime.specs.Steady.{IsProgram};
-ghost use Rattle.ick_runtime.specs.View.{array_names, array_of, scalar_names};
+ghost use Rattle.ick_runtime.specs.View.{array_names, scalar_names};
 ghost use Rattle.ick_machine.specs.StateView.{present_program, present_state};
 ghost use Rattle.ick_machine.specs.RunIn.{CanGoOn};
 
@@ -103,7 +103,7 @@ pub fn dimensions<'m>(present: &StateView<'m, '_, '_>, name: Name) -> &'m [u32]
 {
     law(present);
     match array_slot(present.lowered.code, name) {
-        Some(slot) => &present.memory.rest.arrays[slot as usize].dimensions,
+        Some(slot) => present.memory.rest.arrays[slot as usize].dimensions(),
         None => &[],
     }
 }
@@ -114,7 +114,7 @@ pub fn elements<'m>(present: &StateView<'m, '_, '_>, name: Name) -> &'m [u32]
 {
     law(present);
     match array_slot(present.lowered.code, name) {
-        Some(slot) => &present.memory.rest.arrays[slot as usize].elements,
+        Some(slot) => present.memory.rest.arrays[slot as usize].elements(),
         None => &[],
     }
 }
@@ -127,7 +127,7 @@ pub fn is_ignored(present: &StateView<'_, '_, '_>, name: Name) -> bool
     let memory = present.memory;
     if names_array(name) {
         return match array_slot(present.lowered.code, name) {
-            Some(slot) => memory.rest.arrays[slot as usize].hidden,
+            Some(slot) => memory.rest.hidden[slot as usize],
             None => false,
         };
     }
@@ -143,25 +143,18 @@ pub fn stashed_numbers<'m>(present: &StateView<'m, '_, '_>, name: Name) -> &'m [
 {
     law(present);
     match scalar_slot(present.lowered.code, name) {
-        Some(slot) => {
-            let stash = &present.memory.rest.scalar_stashes[slot as usize];
-            &stash.items[..stash.depth]
-        }
+        Some(slot) => present.memory.rest.scalar_stashes[slot as usize].values(),
         None => &[],
     }
 }
 
 /// Returns the arrays on the stash of an array, the newest last.
 pub fn stashed_arrays<'m>(present: &StateView<'m, '_, '_>, name: Name) -> &'m [Array]
-    ensures { (present_state present.now).stashed_arrays name
-        ≡ reverse (map array_of result.now) }
+    ensures { (present_state present.now).stashed_arrays name ≡ reverse result.now }
 {
     law(present);
     match array_slot(present.lowered.code, name) {
-        Some(slot) => {
-            let stash = &present.memory.rest.array_stashes[slot as usize];
-            &stash.items[..stash.depth]
-        }
+        Some(slot) => present.memory.rest.array_stashes[slot as usize].values(),
         None => &[],
     }
 }

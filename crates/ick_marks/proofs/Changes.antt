@@ -1,14 +1,14 @@
 -- The changes that a trail has.
 use Rattle.std.proofs.Common.{arith, false, length, List, refl, reverse, rules, take, take_all, ◌++◌, ◌∙◌, ◌≡◌, ◌≢◌, ◌<◌, ◌≤◌, Some, [], ap, map, suc, sym, ℕ, ◌∷◌}
-use Rattle.ick_marks.proofs.Names.{all_undone, changes_in, common_steps, notes_back, Rewinds, length-take-le, statuses_were, take-append-le, array_of, array_was, ArrayValue}
+use Rattle.ick_marks.proofs.Names.{all_undone, changes_in, common_steps, notes_back, Rewinds, length-take-le, statuses_were, take-append-le, array_was, ArrayValue}
 use Rattle.ick_marks.proofs.Names.{change_of, Extends, HighSame, undone, Like, Trail, View}
 use Rattle.std.proofs.lemmas.List.{length-append, reverse-append, reverse-reverse}
 use Rattle.std.{proofs.lemmas.List.length-reverse, specs.Global.Vec}
-use Rattle.ick_runtime.specs.declared.{change.ArrayChange.ArrayChange, change.Entry.Entry, memory.Array.Array, memory.Stash.Stash}
-use Rattle.ick_runtime.proofs.{StashLemmas.arrays_put, Undoing.IsBelow, Undoing.like_refl, Undoing.marks_here}
+use Rattle.ick_runtime.specs.{declared.{change.ArrayChange.ArrayChange, change.Entry.Entry}, Stash.Stash}
+use Rattle.ick_runtime.proofs.{Undoing.IsBelow, Undoing.like_refl, Undoing.marks_here}
 use Rattle.ick_marks.specs.Newest.{register_first}
 use Rattle.ick_marks.specs.TrailChanges.{arrays_in, AreUndone, changes_by, fixed_by, IsNoted, IsUndone, UndoesBy}
-use Rattle.ick_runtime.specs.{Undo.Change, Undo.changes_of, Undo.fixed_of, Undo.IsUndoable, Undo.stands_apart, View.arrays_of, View.bytes_of, View.used}
+use Rattle.ick_runtime.specs.{Undo.Change, Undo.changes_of, Undo.fixed_of, Undo.IsUndoable, Undo.stands_apart, View.bytes_of}
 use Rattle.ick_runtime.specs.declared.change.Entry.TheVariants as entry
 
 -- an entry with its old value is a change of its own
@@ -104,10 +104,9 @@ newest_register t at newer is = by_first (reverse t.entries.items) refl is
         }
     by_first (other ∷ older) e none = absurd (cc none)
 
-pub newest_array : (t : Trail) (all : List Entry) (arrays : Stash Array) (change : ArrayChange) (slot : ℕ) (old : ArrayValue) →
-    all ≡ t.entries.items ++ entry.Array change slot ∷ [] →
-    used (arrays_of arrays) ≡ arrays_in t ++ old ∷ [] →
-    reverse (changes_of (reverse all) (reverse (used (arrays_of arrays))) (reverse (map bytes_of t.statuses.items)))
+pub newest_array : (t : Trail) (all : List Entry) (arrays : Stash ArrayValue) (change : ArrayChange) (slot : ℕ) (old : ArrayValue) →
+    all ≡ t.entries.items ++ entry.Array change slot ∷ [] → arrays.values ≡ arrays_in t ++ old ∷ [] →
+    reverse (changes_of (reverse all) (reverse arrays.values) (reverse (map bytes_of t.statuses.items)))
     ≡ changes_in t ++ array_was change slot old ∷ []
 newest_array t all arrays change slot old is pushed = grind (arith, common_steps)
 
@@ -140,7 +139,7 @@ module _ {t new : Trail} {e : Entry} {v w : View} where
   statuses_undone old is popped same view =
       record { change = statuses_were old.items; off = λ es. grind (arith, common_steps); view_is = view }
 
-  pub no_array_undone : {change : ArrayChange} {slot : ℕ} → e ≡ entry.Array change slot → t.arrays.depth ≡ 0 →
+  pub no_array_undone : {change : ArrayChange} {slot : ℕ} → e ≡ entry.Array change slot → arrays_in t ≡ [] →
       new.arrays ≡ t.arrays → new.statuses ≡ t.statuses → w ≡ v → IsUndone e t new v w
   no_array_undone is none same_arrays same view = grind (arith, common_steps)
 
@@ -158,9 +157,7 @@ nothing_newer t changes v few = record {
   stays = λ m h. all_undone (HighSame t.base v) (changes_in t) changes v few (h.stays v (like_refl t.base t.low v));
 }
 
--- for marks, for notes, and for arrays that are put back
+-- for marks and for notes
 pub ruleset marked = (common_steps, count_history, marks_here)
 
 pub ruleset noting = (common_steps, fixed_grown, grown, grown_one, newest_array, newest_statuses)
-
-pub ruleset replacing = (common_steps, arrays_put)

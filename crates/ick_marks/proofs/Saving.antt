@@ -1,27 +1,12 @@
--- Lists that are copied, and states that are kept.
-use Rattle.std.proofs.Common.{arith, drop, get_or, length, List, map, refl, rules, subst, suc, sym, take, take_all, zero, ℕ, ◌++◌, [], ap, ◌+◌, ◌<◌, ◌∙◌, ◌∷◌, ◌≡◌, ◌≤◌}
-use Rattle.ick_marks.proofs.Names.{common_steps, get_or-map, length-map, length-take-le, LoweredParts, map-set_same, arrays_on, HighSame, Input, is_hidden}
-use Rattle.ick_marks.proofs.Names.{IsProgram, numbers_on, saved_view, take-take, AreSame, array_of, IsLoaded, IsSteady, Parts, parts_of, restored, state_of}
-use Rattle.ick_marks.proofs.Names.{take-append-le, take-map, Code, IsReady, IsSaved, Like, map-map, Name, Saved, View}
-use Rattle.std.proofs.lemmas.List.{length-append, length-drop, map-append, map-set, take_more}
-use Rattle.ick_marks.specs.Saved.{flagged}
-use Rattle.ick_runtime.specs.{declared.memory.Array.Array as Kept, declared.memory.Parts.Parts as KeptParts, Undo.IsRestored, Undo.SameFirst}
+-- States that are copied, kept, and put into a memory.
+use Rattle.std.proofs.Common.{arith, drop, get_or, length, List, map, refl, rules, suc, sym, take, take_all, zero, ℕ, ◌++◌, [], ap, ◌<◌, ◌∙◌, ◌∷◌, ◌≡◌, ◌≤◌}
+use Rattle.std.proofs.lemmas.List.{length-append, length-drop}
+use Rattle.std.{proofs.lemmas.List.Elements.same_from_all_zip, specs.List.AllZip}
+use Rattle.ick_marks.proofs.Names.{AreSame, Code, common_steps, HighSame, Input, IsLoaded, IsProgram, IsReady, IsSaved, IsSteady, length-map, length-take-le, Like}
+use Rattle.ick_marks.proofs.Names.{LoweredParts, Name, Parts, parts_of, restored, Saved, saved_view, state_of, take-append-le, View}
+use Rattle.ick_runtime.specs.{declared.memory.Parts.Parts as KeptParts, Stash.{Stash, used}, Undo.IsRestored, Undo.SameFirst}
 use Rattle.ick_runtime.{specs.View.{map_of, scalar_names}, proofs.StashLemmas.parts_same}
 use Rattle.ick_runtime.proofs.{Restoring.all_same, Restoring.state_by, Steadiness.steady_by, Undoing.alike}
-
--- one value more of the first ones
-pub one_more : {A B : Type 0} (f : A → B) (xs : List A) (at : ℕ) (x : A) → at < length xs → x ≡ get_or xs at x →
-    take (at + 1) (map f xs) ≡ take at (map f xs) ++ f x ∷ []
-one_more f xs at x within read =
-    let there : get_or (map f xs) at (f x) ≡ f x = get_or-map f xs at x (f x) within ∙ ap f (sym read) in
-    let inside : at < length (map f xs) = subst (λ n. at < n) (sym (length-map xs f)) within in
-    cc (there, take_more (map f xs) at (f x) inside)
-
--- a copy that is made value by value
-pub copied_next : {A B : Type 0} (f : A → B) (xs copies copies' : List A) (at : ℕ) (x y : A) → at < length xs →
-    y ≡ get_or xs at y → copies' ≡ copies ++ x ∷ [] → f x ≡ f y → map f copies ≡ take at (map f xs) →
-    map f copies' ≡ take (at + 1) (map f xs)
-copied_next f xs copies copies' at x y within read pushed same done = search (rules, map-append, one_more)
 
 -- numbers that were put in place of the first ones
 put_high : (xs ys : List ℕ) (r : ℕ) → length xs ≤ length ys → length xs ≤ r →
@@ -46,18 +31,27 @@ same_parts_refl p = record { others = refl; scalars = refl; arrays = refl }
 pub same_parts_trans : {p q r : Parts} → AreSame p q → AreSame q r → AreSame p r
 same_parts_trans a b = search rules
 
--- the parts of pairs
-pub firsts : (xs ys : List Kept) → map flagged xs ≡ map flagged ys → map array_of xs ≡ map array_of ys
-firsts xs ys same = cc (ap (map (λ p. p.0)) same, map-map (λ p. p.0) flagged xs, map-map (λ p. p.0) flagged ys)
+-- copies of stashes have the same values
+clones_used : {A : Type 0} (xs ys : List (Stash A)) → AllZip (λ s t. AllZip (λ x y. y ≡ x) s.values t.values) xs ys →
+    map used ys ≡ map used xs
+clones_used [] [] h = refl
+clones_used [] (y ∷ ys) h = absurd h
+clones_used (x ∷ xs) [] h = absurd h
+clones_used (x ∷ xs) (y ∷ ys) h =
+    cc (same_from_all_zip _ x.values y.values h.0 (λ a b e. e), clones_used xs ys h.1)
 
-seconds : (xs ys : List Kept) → map flagged xs ≡ map flagged ys → map is_hidden xs ≡ map is_hidden ys
-seconds xs ys same = cc (ap (map (λ p. p.1)) same, map-map (λ p. p.1) flagged xs, map-map (λ p. p.1) flagged ys)
-
-pub rest_same : (p q : KeptParts) → map flagged q.arrays.items ≡ map flagged p.arrays.items →
-    map numbers_on q.scalar_stashes.items ≡ map numbers_on p.scalar_stashes.items →
-    map arrays_on q.array_stashes.items ≡ map arrays_on p.array_stashes.items → q.taken ≡ p.taken →
-    q.output.items ≡ p.output.items → q.last ≡ p.last → q.lastin ≡ p.lastin → AreSame (parts_of p) (parts_of q)
-rest_same p q arrays numbers stashed taken output last lastin = search (rules, firsts, map-map, seconds)
+pub rest_same : (p q : KeptParts) → AllZip (λ x y. y ≡ x) p.arrays.items q.arrays.items → q.hidden.items ≡ p.hidden.items →
+    AllZip (λ s t. AllZip (λ x y. y ≡ x) s.values t.values) p.scalar_stashes.items q.scalar_stashes.items →
+    AllZip (λ s t. AllZip (λ x y. y ≡ x) s.values t.values) p.array_stashes.items q.array_stashes.items →
+    q.taken ≡ p.taken → q.output.items ≡ p.output.items → q.last ≡ p.last → q.lastin ≡ p.lastin →
+    AreSame (parts_of p) (parts_of q)
+rest_same p q arrays hidden numbers stashed taken output last lastin =
+    let same = same_from_all_zip _ p.arrays.items q.arrays.items arrays (λ a b e. e) in
+    record {
+      others = cc (same, hidden, taken, output, last, lastin);
+      scalars = clones_used _ _ numbers;
+      arrays = clones_used _ _ stashed;
+    }
 
 -- the first values of a list are those that names lead to
 map_first : {A : Type 0} (names : List Name) (n : ℕ) (xs : List A) (none : A) (name : Name) → length names ≤ n →
@@ -91,24 +85,24 @@ module _ (code : Code) (lowered : LoweredParts) (is : IsProgram code lowered) wh
     abbrev pub first : List ℕ
     first = take base m.registers
 
-    abbrev pub used : List ℕ
-    used = take m.depth m.returns
+    abbrev pub returned : List ℕ
+    returned = take m.depth m.returns
 
     first_count : length first ≡ base
     first_count = length-take-le base m.registers (omega (arith, marked.steady.registers))
 
-    used_count : length used ≡ m.depth
+    used_count : length returned ≡ m.depth
     used_count = length-take-le m.depth m.returns (omega (arith, marked.steady.depth, marked.steady.returns))
 
     pub first_low : length first ≤ length old.registers
     first_low = omega (arith, first_count, was.registers)
 
-    pub used_low : length used ≤ length old.returns
+    pub used_low : length returned ≤ length old.returns
     used_low = omega (arith, used_count, marked.steady.depth, was.returns)
 
     pub loaded : (new : View) (kept : Parts) → new.registers ≡ first ++ drop (length first) old.registers →
-        new.returns ≡ used ++ drop (length used) old.returns → new.store_target ≡ m.store_target → new.statuses ≡ m.statuses →
-        new.place ≡ m.place → new.depth ≡ length used → AreSame m.parts kept → AreSame kept new.parts →
+        new.returns ≡ returned ++ drop (length returned) old.returns → new.store_target ≡ m.store_target → new.statuses ≡ m.statuses →
+        new.place ≡ m.place → new.depth ≡ length returned → AreSame m.parts kept → AreSame kept new.parts →
         IsLoaded code lowered m new
     loaded new kept registers returns store_target statuses place depth saved copied = record {
       ready = whole.ready;
@@ -131,9 +125,3 @@ module _ (code : Code) (lowered : LoweredParts) (is : IsProgram code lowered) wh
         whole =
             restored code lowered is old m' new was.constants (ready_with m new.parts parts marked) like high place
             (depth ∙ used_count)
-
--- for lists that are copied value by value
-pub ruleset value_by_value = (copied_next, firsts, take-map, take-take)
-
--- for an array that is replaced
-pub ruleset arrays_set = (map-set, map-set_same)

@@ -1,25 +1,12 @@
 -- States that are kept apart from a memory.
-use Rattle.std.specs.Prelude.{ℕ, ◌≡◌, Bool, List, length, map, take}
-use Rattle.ick_code.specs.{meaning.State.Array, declared.code.Code.Code}
+use Rattle.std.specs.Prelude.{◌≡◌, length, map, take}
+use Rattle.ick_code.specs.declared.code.Code.{Code}
 use Rattle.ick_instructions.specs.declared.lowered.LoweredParts.{LoweredParts}
-use Rattle.ick_runtime.specs.View.{View, Parts, array_names, array_of, arrays_of, is_hidden, numbers_of, parts_of}
-use Rattle.ick_runtime.specs.View.{scalar_names, state_of, used}
-use Rattle.ick_runtime.specs.{declared.memory.Array.Array as KeptArray, declared.memory.Stash.Stash, Steady.IsReady}
-use Rattle.ick_runtime.specs.{Undo.but_stashes, Inputs.Input}
+use Rattle.ick_runtime.specs.View.{View, Parts, array_names, parts_of, scalar_names, state_of}
+use Rattle.ick_runtime.specs.{Inputs.Input, Stash.used, Steady.IsReady, Undo.but_stashes}
 use Rattle.ick_marks.specs.declared.saved.Saved.{Saved}
 
--- the values on a stash
-abbrev pub numbers_on : Stash ℕ → List ℕ
-numbers_on stash = used (numbers_of stash)
-
-abbrev pub arrays_on : Stash KeptArray → List Array
-arrays_on stash = used (arrays_of stash)
-
--- an array, and whether it is ignored
-abbrev pub flagged : KeptArray → Array × Bool
-flagged a = (array_of a, is_hidden a)
-
--- parts that differ in the spare room of stashes alone
+-- parts that differ in the room of stashes alone
 pub record AreSame (p q : Parts) : Type 0 where
   pub others : but_stashes q ≡ but_stashes p
   pub scalars : map used q.scalar_stashes ≡ map used p.scalar_stashes
@@ -34,7 +21,7 @@ pub record IsSaved (lowered : LoweredParts) (saved : Saved) (v : View) : Type 0 
   pub returns_kept : saved.returns.items ≡ take v.depth v.returns
   pub parts_kept : AreSame v.parts (parts_of saved.rest)
 
--- the view of a kept state: it has no temporaries, and no spare room
+-- the view of a kept state: it has no temporaries, and no room for more values
 abbrev pub saved_view : Saved → View
 saved_view saved = record {
   place = saved.place;

@@ -2,12 +2,12 @@
 use Rattle.std.specs.Prelude.{ℕ, ◌≡◌, ◌≤◌, List, [], ◌∷◌, ◌++◌, length, map, reverse, take}
 use Rattle.ick_code.specs.meaning.State.{Array}
 use Rattle.ick_runtime.specs.Undo.{Change, Fixed, HighSame, Like, Rewinds, changes_of, fixed_of, register_was, undone}
-use Rattle.ick_runtime.specs.{declared.change.Entry.Entry, View.View, View.arrays_of, View.bytes_of, View.used}
+use Rattle.ick_runtime.specs.{declared.change.Entry.Entry, Stash.used, View.View, View.bytes_of}
 use Rattle.ick_marks.specs.declared.trail.Trail.{Trail}
 
 -- the arrays that a trail has, the newest last
 abbrev pub arrays_in : Trail → List Array
-arrays_in t = used (arrays_of t.arrays)
+arrays_in t = used t.arrays
 
 -- the changes of entries, the newest first, with the arrays and statuses of a trail
 abbrev pub changes_by : Trail → List Entry → List Change

@@ -3,10 +3,8 @@
 //! - `trail`: changes that can be undone
 //! - `marks`: states that a trail leads back to
 //! - `saved`: states that are kept apart from a memory
-//! - `copy`: copies of what a state has
 #![tactic(auto)]
 
-mod copy;
 mod marks;
 mod saved;
 mod trail;

@@ -1,18 +1,16 @@
 //! Marks: states that a run can go back to.
 
-ghost use Rattle.std.specs.Prelude.{◌≡◌, ◌<◌, ◌≤◌, ℕ, length, map, slice_set, take, true};
-ghost use Rattle.std.proofs.Common.{get_or};
-ghost use Rattle.ick_code.specs.meaning.State.{no_array};
+ghost use Rattle.std.specs.Prelude.{◌≡◌, ◌<◌, ◌≤◌, ℕ, length, slice_set, take, true};
+ghost use Rattle.ick_code.specs.meaning.State.{Array as ArrayValue};
 ghost use Rattle.ick_marks.specs.TrailChanges.{changes_in, AreUndone, IsUndone};
-ghost use Rattle.ick_runtime.specs.Undo.{change_of, undone, undone_array, with_number, IsRestored};
-ghost use Rattle.ick_runtime.specs.{Undo.Rewinds, View.{View, array_of, is_hidden, parts_of}};
+ghost use Rattle.ick_runtime.specs.Stash.{IsTakenOff, put_on, taken_off};
+ghost use Rattle.ick_runtime.specs.Undo.{at_slot, change_of, undone, undone_array, with_number};
+ghost use Rattle.ick_runtime.specs.{Undo.{IsRestored, Rewinds}, View.{View, parts_of}};
 ghost use Rattle.ick_runtime.specs.{Memory.view_in, Steady.{IsReady, IsSteady}};
 
 use crate::trail::Trail;
 use ick_instructions::Lowered;
-use ick_runtime::{
-    Array, ArrayChange, Entry, Memory, Parts, drop_at, exchange, put_at, set_element, set_hidden,
-};
+use ick_runtime::{Array, ArrayChange, Entry, Memory, Parts, Stash};
 
 /// A mark: the place and the depth of the NEXT stack, and how many changes were noted before it.
 #[derive(Clone, Copy)]
@@ -62,28 +60,36 @@ fn put_back<T: Copy>(values: &mut Vec<T>, at: u32, old: T)
 
 /// Puts the number of an element back, if there is such an element.
 fn put_element(arrays: &mut Vec<Array>, slot: u32, at: u32, old: u32)
-    ensures arrays { map array_of arrays.new.items
-        ≡ with_number (map array_of arrays.old.items) slot at old }
-    ensures hidden { map is_hidden arrays.new.items ≡ map is_hidden arrays.old.items }
+    ensures { arrays.new.items ≡ with_number arrays.old.items slot at old }
 {
-    if (slot as usize) < arrays.len() && (at as usize) < arrays[slot as usize].elements.len() {
-        set_element(arrays, slot, at, old);
+    if slot as usize >= arrays.len() {
+        return;
+    }
+    let array = &mut arrays[slot as usize];
+    if (at as usize) < array.elements().len() {
+        array.set_element(at, old);
     }
 }
 
-/// Hides an array again, or shows it, if there is such an array.
-fn put_hidden(arrays: &mut Vec<Array>, slot: u32, old: bool)
-    ensures arrays { map array_of arrays.new.items ≡ map array_of arrays.old.items }
-    ensures hidden { map is_hidden arrays.new.items
-        ≡ slice_set (map is_hidden arrays.old.items) slot old }
+/// Takes the newest value off the stash in a slot, if there is one.
+fn drop_at<T: Drop>(stashes: &mut Vec<Stash<T>>, slot: u32)
+    ensures { stashes.new.items ≡ at_slot taken_off slot stashes.old.items }
 {
-    if (slot as usize) < arrays.len() {
-        set_hidden(arrays, slot, old);
+    if (slot as usize) < stashes.len() {
+        stashes[slot as usize].drop_newest();
+    }
+}
+
+/// Puts a value back on the stash in a slot, if there is room, in exchange for what is there.
+fn put_at<T: Drop>(stashes: &mut Vec<Stash<T>>, slot: u32, value: &mut T)
+    ensures { stashes.new.items ≡ at_slot (put_on value.old) slot stashes.old.items }
+{
+    if (slot as usize) < stashes.len() {
+        stashes[slot as usize].put_back(value);
     }
 }
 
 /// Undoes a change whose old value is in its entry.
-#[tactic(auto, using(ick_runtime::proofs::StashLemmas::arrays_dropped))]
 fn undo(memory: &mut Memory, entry: Entry)
     ensures { view_in memory.new ≡ undone (change_of entry) (view_in memory.old) }
 {
@@ -94,7 +100,7 @@ fn undo(memory: &mut Memory, entry: Entry)
         Entry::Status(at, old) => put_back(&mut memory.statuses, at, old),
         Entry::Return(at, old) => put_back(&mut memory.returns, at, old),
         Entry::Element(slot, at, old) => put_element(&mut rest.arrays, slot, at, old),
-        Entry::Hidden(slot, old) => put_hidden(&mut rest.arrays, slot, old),
+        Entry::Hidden(slot, old) => put_back(&mut rest.hidden, slot, old),
         Entry::ScalarSaved(slot) => drop_at(&mut rest.scalar_stashes, slot),
         Entry::ScalarTaken(slot, mut old) => put_at(&mut rest.scalar_stashes, slot, &mut old),
         Entry::ScalarRestored(slot, mut number, old) => {
@@ -110,32 +116,24 @@ fn undo(memory: &mut Memory, entry: Entry)
     }
 }
 
-/// Puts an array back, in exchange for the present one.
-#[tactic(auto, using(crate::proofs::Saving::arrays_set))]
-fn replace_array(arrays: &mut Vec<Array>, slot: u32, old: &mut Array)
-    requires { slot < length arrays.old.items }
-    ensures arrays { map array_of arrays.new.items
-        ≡ slice_set (map array_of arrays.old.items) slot (array_of old.old) }
-    ensures hidden { map is_hidden arrays.new.items ≡ map is_hidden arrays.old.items }
-    ensures present { array_of old.new ≡ get_or (map array_of arrays.old.items) slot no_array }
+/// Undoes a change of an array with the newest of the arrays that are kept. What is left of the
+/// present one is spare.
+fn undo_array(rest: &mut Parts, change: ArrayChange, slot: u32, kept: &mut Stash<Array>)
+    requires { 0 < length kept.old.values }
+    ensures { (old : ArrayValue) × IsTakenOff old kept.old kept.new
+        × (parts_of rest.new ≡ undone_array change slot old (parts_of rest.old)) }
 {
-    exchange(&mut arrays[slot as usize], old);
-}
-
-/// Undoes a change of an array. What is left of the old one is spare.
-#[tactic(auto, using(crate::proofs::Changes::replacing))]
-fn undo_array(rest: &mut Parts, change: ArrayChange, slot: u32, old: &mut Array)
-    ensures { parts_of rest.new
-        ≡ undone_array change slot (array_of old.old) (parts_of rest.old) }
-{
+    let at = slot as usize;
     match change {
-        ArrayChange::Taken => put_at(&mut rest.array_stashes, slot, old),
-        _ if slot as usize >= rest.arrays.len() => {}
-        ArrayChange::Replaced => replace_array(&mut rest.arrays, slot, old),
-        ArrayChange::Restored => {
-            replace_array(&mut rest.arrays, slot, old);
-            put_at(&mut rest.array_stashes, slot, old);
+        ArrayChange::Taken if at < rest.array_stashes.len() => {
+            kept.hand_over(&mut rest.array_stashes[at]);
         }
+        ArrayChange::Replaced if at < rest.arrays.len() => kept.exchange(&mut rest.arrays[at]),
+        ArrayChange::Restored if at < rest.arrays.len() => {
+            put_at(&mut rest.array_stashes, slot, &mut rest.arrays[at]);
+            kept.exchange(&mut rest.arrays[at]);
+        }
+        _ => kept.drop_newest(),
     }
 }
 
@@ -150,10 +148,8 @@ fn undo_newest(trail: &mut Trail, memory: &mut Memory, entry: Entry)
 {
     match entry {
         Entry::Array(change, slot) => {
-            let kept = &mut trail.arrays;
-            if kept.depth > 0 {
-                kept.depth -= 1;
-                undo_array(&mut memory.rest, change, slot, &mut kept.items[kept.depth]);
+            if !trail.arrays.values().is_empty() {
+                undo_array(&mut memory.rest, change, slot, &mut trail.arrays);
             }
         }
         Entry::Statuses => match trail.statuses.pop() {

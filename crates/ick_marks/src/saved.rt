@@ -1,8 +1,9 @@
 //! States that are kept apart from a memory.
 
-ghost use Rattle.std.specs.Prelude.{◌≡◌, ◌++◌, ◌≤◌, drop, length};
+ghost use Rattle.std.specs.Prelude.{◌≡◌, ◌++◌, ◌≤◌, drop, length, IfOk};
+ghost use Rattle.ick_marks.specs.Saved.{AreSame};
+ghost use Rattle.ick_runtime.specs.View.{parts_of};
 
-use crate::copy::copy_rest;
 use ick_bits::NoMemory;
 use ick_instructions::Lowered;
 use ick_runtime::{Memory, Parts};
@@ -25,6 +26,22 @@ pub struct Saved {
     pub returns: Vec<u32>,
     /// The parts that few instructions change.
     pub rest: Parts,
+}
+
+/// Copies the parts of a state that few instructions change. Stashes of the copy have no room.
+fn copy_rest(alloc: Global, rest: &Parts) -> Result<Parts, NoMemory>
+    ensures { IfOk result (λ copy. AreSame (parts_of rest.now) (parts_of copy)) }
+{
+    Ok(Parts {
+        arrays: rest.arrays.clone()?,
+        hidden: Vec::from_slice(alloc, &rest.hidden)?,
+        scalar_stashes: rest.scalar_stashes.clone()?,
+        array_stashes: rest.array_stashes.clone()?,
+        taken: rest.taken,
+        output: Vec::from_slice(alloc, &rest.output)?,
+        last: rest.last,
+        lastin: rest.lastin,
+    })
 }
 
 /// Overwrites the first numbers of a list.

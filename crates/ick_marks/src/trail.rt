@@ -45,10 +45,7 @@ impl Trail {
     {
         Trail {
             entries: Vec::new(alloc),
-            arrays: Stash {
-                items: Vec::new(alloc),
-                depth: 0,
-            },
+            arrays: Stash::new(alloc),
             statuses: Vec::new(alloc),
             low: 0,
             base,
@@ -69,7 +66,7 @@ impl Trail {
         self.kept = 0;
         self.newest = u32::MAX;
         self.entries.clear();
-        self.arrays.depth = 0;
+        self.arrays.clear();
         self.statuses.clear();
         self.low = 0;
     }

@@ -15,14 +15,14 @@ pub use Rattle.ick_instructions.specs.{Bounds.bounds_of, Bounds.IsBounded, decla
 pub use Rattle.ick_instructions.specs.{declared.instruction.Operation.Operation, declared.lowered.LoweredParts.LoweredParts, Lowered.lowered_setting}
 pub use Rattle.ick_instructions.specs.{Lowered.Represented, Operations.is_calculation, Registers.HasConstants}
 pub use Rattle.ick_runtime.specs.Run.{FlowLeads, GoesOn, Stands, Stopped, StopsIn, with_end}
-pub use Rattle.ick_runtime.specs.Stashes.{ChangesAt, IsPutOn, IsRestoredTo, IsTakenOff}
+pub use Rattle.ick_runtime.specs.Stash.{IsPutOn, IsTakenOff, no_stash, put_on, Stash, StashLike, taken_off, used}
+pub use Rattle.ick_runtime.specs.Stashes.{ChangesAt, IsRestoredTo}
 pub use Rattle.ick_runtime.specs.Status.{flag_at, IsAnswered, lack_of, met_as, percent_of}
 pub use Rattle.ick_runtime.specs.Steady.{AreStatuses, IsHome, IsProgram, IsReady, IsSteady}
-pub use Rattle.ick_runtime.specs.Undo.{array_was, at_slot, Change, Fixed, HighSame, Like, PartsLike, put_on, StashLike, taken_off, undone, with_array_stashes}
+pub use Rattle.ick_runtime.specs.Undo.{array_was, at_slot, Change, Fixed, HighSame, Like, PartsLike, undone, with_array_stashes}
 pub use Rattle.ick_runtime.specs.Undo.{with_arrays, with_hidden, with_scalar_stashes}
-pub use Rattle.ick_runtime.specs.View.{array_names, array_of, arrays_of, both, dump_of, file_of, is_hidden, map_of, no_stash, numbers_of, Parts, scalar_names}
-pub use Rattle.ick_runtime.specs.View.{Stash, stash_in, state_of, text_of, used, View, view}
-pub use Rattle.ick_runtime.specs.{Calculations.ReadsWithin, declared.memory.Array.Array as Kept, declared.memory.Stash.Stash as KeptStash, Elements.IsFetched}
+pub use Rattle.ick_runtime.specs.View.{array_names, both, dump_of, file_of, map_of, Parts, scalar_names, state_of, text_of, View, view}
+pub use Rattle.ick_runtime.specs.{Calculations.ReadsWithin, Elements.IsFetched}
 pub use Rattle.ick_runtime.specs.{Elements.IsStored, Halts.Comes, Inputs.Input, Inputs.Leads, Returns.rupture_of, Sizes.sizes_fault, Traced.Proceeds}
 pub use Rattle.ick_syntax.specs.{declared.tree.Name.Name, declared.tree.UnaryOp.UnaryOp, StatementTree.StatementTree}
 pub use Rattle.std.proofs.lemmas.List.{get_or-map, get_or-set_other, get_or-set_same, get_or-take, length-drop, length-map, length-replicate, length-set}

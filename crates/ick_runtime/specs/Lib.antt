@@ -8,6 +8,7 @@ pub mod Calculations
 pub mod Memory
 pub mod Elements
 pub mod Undo
+pub mod Stash
 pub mod Stashes
 pub mod Sizes
 pub mod Inputs

@@ -1,25 +1,13 @@
--- Values that are put on stashes and taken off.
-use Rattle.std.specs.Prelude.{ℕ, ◌≡◌, ◌<◌, ◌==◌, Bool, true, false, List, [], ◌∷◌, ◌++◌, length, slice_set}
+-- Stashes of which one is changed.
+use Rattle.std.specs.Prelude.{ℕ, ◌≡◌, ◌==◌, Bool, true, false, List, [], slice_set}
 use Rattle.std.specs.Prelude.{if◌then◌else◌, Result, Ok, Err}
 use Rattle.std.proofs.Common.{get_or}
 use Rattle.ick_bits.specs.declared.faults.FaultKind.TheVariants.{NothingStashed}
 use Rattle.ick_code.specs.meaning.State.{Array}
 use Rattle.ick_runtime.specs.{declared.halt.Halt.Halt, declared.halt.Halt.TheVariants.Fault}
 use Rattle.ick_runtime.specs.{declared.halt.Halt.TheVariants.Word}
-use Rattle.ick_runtime.specs.{declared.halt.Halt.TheVariants.NoMemory, Undo.StashLike, Undo.put_on, Undo.taken_off}
-use Rattle.ick_runtime.specs.{View.Stash, View.no_stash}
-use Rattle.ick_runtime.specs.{View.used}
-
--- a value was put on a stash, and can be taken off again
-pub record IsPutOn {A : Type 0} (x : A) (old new : Stash A) : Type 0 where
-  pub values : used new ≡ used old ++ x ∷ []
-  pub back : StashLike old (taken_off new)
-
--- the newest value of a stash was taken off, and can be put on again
-pub record IsTakenOff {A : Type 0} (x : A) (old new : Stash A) : Type 0 where
-  pub values : used old ≡ used new ++ x ∷ []
-  pub place : new.depth < length new.items
-  pub back : StashLike old (put_on x new)
+use Rattle.ick_runtime.specs.{declared.halt.Halt.TheVariants.NoMemory}
+use Rattle.ick_runtime.specs.Stash.{IsTakenOff, Stash, no_stash, used}
 
 -- one stash of many was changed
 pub record ChangesAt {A : Type 0} (slot : ℕ) (P : Stash A → Stash A → Type 0)

@@ -7,7 +7,8 @@ use Rattle.ick_code.specs.{meaning.State.Array, meaning.State.no_array, declared
 use Rattle.ick_instructions.specs.declared.lowered.LoweredParts.{LoweredParts}
 use Rattle.ick_runtime.specs.{declared.change.ArrayChange.ArrayChange, declared.change.Entry.Entry}
 use Rattle.ick_runtime.specs.{Elements.with_element, Steady.IsReady, View.View}
-use Rattle.ick_runtime.specs.{View.Parts, View.Stash, View.no_stash, View.used, View.state_of, Inputs.Input}
+use Rattle.ick_runtime.specs.{Stash.{Stash, StashLike, no_stash, put_on, taken_off}}
+use Rattle.ick_runtime.specs.{View.Parts, View.state_of, Inputs.Input}
 use Rattle.ick_runtime.specs.declared.change.ArrayChange.TheVariants as now
 use Rattle.ick_runtime.specs.declared.change.Entry.TheVariants as entry
 
@@ -27,16 +28,6 @@ with_scalar_stashes stashes v = record v { parts = record v.parts { scalar_stash
 
 abbrev pub with_array_stashes : List (Stash Array) → View → View
 with_array_stashes stashes v = record v { parts = record v.parts { array_stashes = stashes } }
-
--- a stash with one more value, if it has spare room, and with one less
-abbrev pub put_on : {A : Type 0} → A → Stash A → Stash A
-put_on x s = record {
-  items = slice_set s.items s.depth x;
-  depth = if nat_lt s.depth (length s.items) then s.depth + 1 else s.depth;
-}
-
-abbrev pub taken_off : {A : Type 0} → Stash A → Stash A
-taken_off s = record { items = s.items; depth = s.depth - 1 }
 
 -- stashes of which one is changed
 abbrev pub at_slot : {A : Type 0} → (Stash A → Stash A) → ℕ → List (Stash A) → List (Stash A)
@@ -116,9 +107,9 @@ abbrev pub rewound : List Change → View → View
 rewound [] v = v
 rewound (change ∷ changes) v = rewound changes (undone change v)
 
--- a stash has spare room
+-- a stash has room for one more value
 abbrev pub HasPlace : {A : Type 0} → List (Stash A) → ℕ → Type 0
-HasPlace stashes slot = (get_or stashes slot no_stash).depth < length (get_or stashes slot no_stash).items
+HasPlace stashes slot = 0 < (get_or stashes slot no_stash).room
 
 -- the value before a change can be put back
 abbrev pub IsUndoable : Change → View → Type 0
@@ -129,11 +120,6 @@ IsUndoable (array_was now.Restored slot old) v = HasPlace v.parts.array_stashes 
 IsUndoable other v = Unit {0}
 
 -- stashes with the same values, and with as much room at least
-pub record StashLike {A : Type 0} (old new : Stash A) : Type 0 where
-  pub depth_same : new.depth ≡ old.depth
-  pub places : length old.items ≤ length new.items
-  pub values : used new ≡ used old
-
 pub record StashesLike {A : Type 0} (old new : List (Stash A)) : Type 0 where
   pub count : length new ≡ length old
   pub each : (slot : ℕ) → StashLike (get_or old slot no_stash) (get_or new slot no_stash)
@@ -152,7 +138,7 @@ pub record SameFirst (n : ℕ) (xs ys : List ℕ) : Type 0 where
   pub same : (k : ℕ) → k < n → get_or ys k 0 ≡ get_or xs k 0
 
 -- views that differ in their place, their depth, the registers from a number on, the return addresses from a depth
--- on, and in what is spare behind stashed values alone
+-- on, and in the room of stashes alone
 pub record Like (base deep : ℕ) (v w : View) : Type 0 where
   pub registers : SameFirst base v.registers w.registers
   pub store_target : w.store_target ≡ v.store_target

@@ -4,9 +4,11 @@
 //! - `fresh`: the memory in which a run begins
 //! - `point`: where a run is, and the registers that it sets
 //! - `calculate`: the numbers that calculations give
-//! - `array`: arrays: their elements, and whether they are ignored
+//! - `array`: arrays: their dimensions and elements
+//! - `element`: elements that are fetched and stored, and arrays that are ignored
 //! - `subscripts`: the subscripts of an element
-//! - `stash`: stashes
+//! - `stash`: stashes: values that are put on and taken off
+//! - `stashing`: STASH and RETRIEVE
 //! - `returns`: whether return addresses can be popped
 //! - `halt`: why an instruction stops the run
 //! - `change`, `notes`: what is noted of a change, and who notes it
@@ -16,6 +18,7 @@
 mod array;
 mod calculate;
 mod change;
+mod element;
 mod fresh;
 mod halt;
 mod memory;
@@ -23,22 +26,21 @@ mod notes;
 mod point;
 mod returns;
 mod stash;
+mod stashing;
 mod subscripts;
 mod tracer;
 
-pub use array::{
-    fetched, greatest, hide_array, index_of, set_element, set_hidden, store_at, subscripts_at,
-};
+pub use array::Array;
 pub use calculate::{calculated, calculation};
 pub use change::{ArrayChange, Entry};
+pub use element::{fetched, greatest, hide_array, store_at, subscripts_at};
 pub use fresh::fresh_memory;
 pub use halt::{Halt, fault_result};
-pub use memory::{Array, Memory, Parts, Stash};
+pub use memory::{Memory, Parts};
 pub use notes::{Nobody, Notes};
 pub use point::{RunPoint, put, set_register};
 pub use returns::{can_pop, resume_fault};
-pub use stash::{
-    drop_at, exchange, put_at, restore_array, restore_scalar, save_array, save_scalar,
-};
+pub use stash::Stash;
+pub use stashing::{restore_array, restore_scalar, save_array, save_scalar};
 pub use subscripts::Subscripts;
 pub use tracer::{NoTraces, Tracer};

@@ -1,32 +1,16 @@
 //! The memory of a run.
 
-ghost use Rattle.std.specs.Prelude.{◌≤◌, length};
-
+use crate::array::Array;
 use crate::point::RunPoint;
-
-/// An array: its dimensions, none at first, and its elements row by row.
-#[derive(Drop)]
-pub struct Array {
-    pub dimensions: Vec<u32>,
-    pub elements: Vec<u32>,
-    pub hidden: bool,
-    pub ghost few: { length elements.items ≤ 65536 },
-}
-
-/// A stash: its values, the newest last. The items from `depth` on are spare, and keep their
-/// buffers. Whether an array on a stash is hidden doesn't matter.
-#[derive(Drop)]
-pub struct Stash<T> {
-    pub items: Vec<T>,
-    pub depth: usize,
-    pub ghost there: { depth ≤ length items.items },
-}
+use crate::stash::Stash;
 
 /// The parts of a state that few instructions change. Arrays and stashes are in the order of their
 /// slots.
 #[derive(Drop)]
 pub struct Parts {
     pub arrays: Vec<Array>,
+    /// Whether the arrays are ignored.
+    pub hidden: Vec<bool>,
     pub scalar_stashes: Vec<Stash<u32>>,
     pub array_stashes: Vec<Stash<Array>>,
     pub taken: usize,

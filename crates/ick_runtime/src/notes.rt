@@ -1,7 +1,7 @@
 //! Who notes changes.
 
 ghost use Rattle.std.specs.Prelude.{◌≡◌, ◌+◌, ◌<◌, ◌≤◌, ◌^◌, ℕ, Bool, true, false, List, []};
-ghost use Rattle.std.specs.{Bool.MatchBool, Prelude.{length, map, OnErr, OnOk}};
+ghost use Rattle.std.specs.{Bool.MatchBool, Prelude.{length, OnErr, OnOk}};
 ghost use Rattle.std.proofs.Common.{get_or};
 ghost use Rattle.ick_code.specs.meaning.State.{no_array};
 ghost use Rattle.ick_instructions.specs.Extends.{Extends};
@@ -9,10 +9,10 @@ ghost use Rattle.ick_runtime.specs.Undo.{array_was, change_of, register_was, sta
 ghost use Rattle.ick_runtime.specs.Undo.{statuses_were, Change, Fixed, KeepsUndoing, Like, Means};
 ghost use Rattle.ick_runtime.specs.Undo.{NotesChange};
 ghost use Rattle.ick_runtime.specs.declared.change.ArrayChange.TheVariants.{Restored};
-ghost use Rattle.ick_runtime.specs.{Noting.NotesOne, View.array_of, View.is_hidden, View.View};
+ghost use Rattle.ick_runtime.specs.{Noting.NotesOne, View.View};
 
 use crate::change::{ArrayChange, Entry};
-use crate::memory::Array;
+use crate::array::Array;
 use ick_bits::NoMemory;
 
 /// Notes changes before they are made, so that they can be undone.
@@ -93,7 +93,7 @@ pub trait Notes: Drop {
         requires room { 0 < room self.old }
         ensures noted { NotesOne room low fixed changes self.old self.new }
         ensures notes { OnOk result (NotesChange Undoes self.old self.new
-            (array_was change slot (array_of array.now))) }
+            (array_was change slot array.now)) }
         ensures same { OnErr result (changes self.new ≡ changes self.old) }
         ensures keeps { OnErr result (KeepsUndoing Undoes self.old self.new) };
 
@@ -103,9 +103,8 @@ pub trait Notes: Drop {
         requires room { 0 < room self.old }
         ensures noted { NotesOne room low fixed changes self.old self.new }
         ensures notes { OnOk result (NotesChange Undoes self.old self.new
-            (array_was Restored slot (array_of array.old))) }
-        ensures hidden { is_hidden array.new ≡ is_hidden array.old }
-        ensures stays { OnErr result (array_of array.new ≡ array_of array.old) }
+            (array_was Restored slot array.old)) }
+        ensures stays { OnErr result (array.new ≡ array.old) }
         ensures same { OnErr result (changes self.new ≡ changes self.old) }
         ensures keeps { OnErr result (KeepsUndoing Undoes self.old self.new) };
 

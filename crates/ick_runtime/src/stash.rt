@@ -1,51 +1,136 @@
-//! Stashes of scalars and arrays.
+//! Stashes: values that are put on and taken off, the newest first.
 
-ghost use Rattle.std.specs.Prelude.{◌≡◌, ◌<◌, ℕ, [], false, length, map, IfNone, IfSome, OnErr};
-ghost use Rattle.std.{specs.{Prelude.OnOk, Bool.{OnFalse, OnTrue}}, proofs.Common.get_or};
-ghost use Rattle.ick_runtime.specs.Undo.{at_slot, put_on, taken_off, with_array_stashes};
-ghost use Rattle.ick_runtime.specs.Undo.{with_arrays, with_scalar_stashes, StashLike, StashesLike};
-ghost use Rattle.ick_runtime.specs.View.{View, array_of, arrays_of, is_hidden, no_stash};
-ghost use Rattle.ick_runtime.specs.View.{numbers_of, stash_in, used};
-ghost use Rattle.ick_runtime.specs.{Noting.NotesOne, Stashes.ChangesAt, Stashes.IsPutOn};
-ghost use Rattle.ick_runtime.specs.{Stashes.IsRestoredTo, Stashes.IsRetrieved, Stashes.IsTakenOff};
-ghost use Rattle.ick_code.specs.meaning.State.{no_array};
+ghost use Rattle.std.specs.Prelude.{◌≡◌, ◌<◌, [], length, IfNone, IfSome, OnErr, OnOk};
+ghost use Rattle.ick_runtime.specs.Stash.{IsHandedOver, IsPutOn, IsTakenOff, StashLike};
+ghost use Rattle.ick_runtime.specs.Stash.{no_stash, put_on, taken_off};
 
-use crate::change::{ArrayChange, Entry};
-use crate::halt::Halt;
-use crate::memory::{Array, Stash};
-use crate::notes::Notes;
-use ick_bits::{FaultKind, NoMemory};
+use crate::array::Array;
+use ick_bits::NoMemory;
+use std::alloc::{AllocError, Global};
+use std::marker::Model;
 use std::mem::swap;
 
-/// Copies numbers over the buffer of others. If memory runs out, no number is left there.
-fn copy_numbers(target: &mut Vec<u32>, numbers: &[u32]) -> Result<(), NoMemory>
-    ensures ok { OnOk result (target.new.items ≡ numbers.now) }
-    ensures err { OnErr result (target.new.items ≡ []) }
-{
-    // As many numbers, as there mostly are, are copied in half the instructions.
-    if target.len() == numbers.len() {
-        target.copy_from_slice(numbers);
-        return Ok(());
-    }
-    target.clear();
-    target.extend_from_slice(numbers)?;
-    Ok(())
+/// A stash: its values, the newest last. The items from `depth` on are spare, and keep their
+/// buffers.
+#[derive(Drop)]
+pub struct Stash<T> {
+    items: Vec<T>,
+    depth: usize,
 }
 
-/// Copies an array over the buffers of another one. If memory runs out, the other one may have any
-/// value.
-fn copy_into(target: &mut Array, array: &Array) -> Result<(), NoMemory>
-    ensures { OnOk result (array_of target.new ≡ array_of array.now) }
-{
-    copy_numbers(&mut target.dimensions, &array.dimensions)?;
-    copy_numbers(&mut target.elements, &array.elements)
+/// Contracts see the values, and for how many more there is room. A growth is needed only if there
+/// is none.
+impl<T> Model for Stash<T> {
+    ghost use Rattle.std.specs.Prelude.{◌≤◌, ◌-◌, length, take};
+    ghost use Rattle.ick_runtime.specs.Stash.{Stash as StashValue, stash_code};
+
+    ghost Value = { StashValue T };
+
+    ghost coded = { stash_code T.code };
+
+    ghost view = { λ s. record {
+      values = take s.depth s.items.items;
+      room = length s.items.items - s.depth;
+    } };
+
+    ghost invariant = { λ s. s.depth ≤ length s.items.items };
+}
+
+/// A copy has copies of the values, and no room for more.
+impl<T: Clone> Clone for Stash<T> {
+    ghost use Rattle.std.specs.List.{AllZip};
+
+    ghost is_clone = { λ stash copy. AllZip T.is_clone stash.values copy.values };
+
+    fn clone(&self) -> Result<Stash<T>, AllocError> {
+        Ok(Stash {
+            items: Vec::from_clones(*self.items.allocator(), self.values())?,
+            depth: self.depth,
+        })
+    }
+}
+
+/// Room doesn't matter.
+impl<T: PartialEq> PartialEq for Stash<T> {
+    ghost use Rattle.std.specs.Cmp.{on_per};
+    ghost use Rattle.std.specs.Cmp.Lexicographic.{lists_per, pointwise};
+
+    ghost eq = { λ a b. pointwise T.eq a.values b.values };
+
+    ghost laws = { on_per (λ s. s.values) (lists_per T.laws) };
+
+    fn eq(&self, other: &Stash<T>) -> bool {
+        self.values() == other.values()
+    }
+}
+
+impl<T: Drop> Stash<T> {
+    /// Returns an empty stash.
+    pub fn new(alloc: Global) -> Stash<T>
+        ensures { result ≡ no_stash }
+    {
+        Stash {
+            items: Vec::new(alloc),
+            depth: 0,
+        }
+    }
+
+    /// Returns the values, the newest last.
+    #[inline(always)]
+    pub fn values(&self) -> &[T]
+        ensures { result.now ≡ self.now.values }
+    {
+        &self.items[..self.depth]
+    }
+
+    /// Takes all values off. Their room stays.
+    pub fn clear(&mut self)
+        ensures { self.new.values ≡ [] }
+    {
+        self.depth = 0;
+    }
+
+    /// Takes the newest value off, if there is one. Its room stays.
+    pub fn drop_newest(&mut self)
+        ensures { self.new ≡ taken_off self.old }
+    {
+        self.depth = self.depth.saturating_sub(1);
+    }
+
+    /// Puts a value on the stash, if there is room, in exchange for what is there.
+    pub fn put_back(&mut self, value: &mut T)
+        ensures { self.new ≡ put_on value.old self.old }
+    {
+        if self.depth < self.items.len() {
+            swap(&mut self.items[self.depth], value);
+            self.depth += 1;
+        }
+    }
+
+    /// Takes the newest value off, in exchange for another one.
+    pub fn exchange(&mut self, value: &mut T)
+        requires { 0 < length self.old.values }
+        ensures { IsTakenOff value.new self.old self.new }
+    {
+        self.depth -= 1;
+        swap(value, &mut self.items[self.depth]);
+    }
+
+    /// Takes the newest value off, and puts it on another stash, if there is room.
+    pub fn hand_over(&mut self, to: &mut Stash<T>)
+        requires { 0 < length self.old.values }
+        ensures { IsHandedOver self.old self.new to.old to.new }
+    {
+        self.depth -= 1;
+        to.put_back(&mut self.items[self.depth]);
+    }
 }
 
 impl Stash<u32> {
     /// Puts a number on the stash. If memory runs out, nothing changes.
     fn save(&mut self, number: u32) -> Result<(), NoMemory>
-        ensures ok { OnOk result (IsPutOn number (numbers_of self.old) (numbers_of self.new)) }
-        ensures err { OnErr result (numbers_of self.new ≡ numbers_of self.old) }
+        ensures ok { OnOk result (IsPutOn number self.old self.new) }
+        ensures err { OnErr result (self.new ≡ self.old) }
     {
         if self.depth == self.items.len() {
             self.items.push(number)?;
@@ -57,10 +142,9 @@ impl Stash<u32> {
 
     /// Takes the newest number off, if there is one.
     fn take_newest(&mut self) -> Option<u32>
-        ensures some { IfSome result (λ number. IsTakenOff number (numbers_of self.old)
-            (numbers_of self.new)) }
-        ensures none { IfNone result (used (numbers_of self.old) ≡ []) }
-        ensures same { IfNone result (numbers_of self.new ≡ numbers_of self.old) }
+        ensures some { IfSome result (λ number. IsTakenOff number self.old self.new) }
+        ensures none { IfNone result (self.old.values ≡ []) }
+        ensures same { IfNone result (self.new ≡ self.old) }
     {
         if self.depth == 0 {
             return None;
@@ -70,240 +154,41 @@ impl Stash<u32> {
     }
 }
 
-/// Exchanges an array for another one. Whether the first one is ignored stays.
-pub fn exchange(array: &mut Array, other: &mut Array)
-    ensures array { array_of array.new ≡ array_of other.old }
-    ensures other { array_of other.new ≡ array_of array.old }
-    ensures hidden { is_hidden array.new ≡ is_hidden array.old }
-{
-    let hidden = array.hidden;
-    swap(array, other);
-    array.hidden = hidden;
-}
-
 impl Stash<Array> {
-    /// Takes the newest array off, in exchange for another one. Whether that one is ignored stays.
-    fn exchange(&mut self, array: &mut Array)
-        requires { 0 < self.old.depth }
-        ensures taken { IsTakenOff (array_of array.new) (arrays_of self.old) (arrays_of self.new) }
-        ensures hidden { is_hidden array.new ≡ is_hidden array.old }
-    {
-        self.depth -= 1;
-        exchange(array, &mut self.items[self.depth]);
-    }
-
-    /// Makes spare room, if there is none. The arrays on the stash stay.
+    /// Makes room, if there is none.
     fn grow(&mut self) -> Result<(), NoMemory>
-        ensures spare { OnOk result (self.new.depth < length self.new.items.items) }
-        ensures like { StashLike (arrays_of self.old) (arrays_of self.new) }
-        ensures depth { self.new.depth ≡ self.old.depth }
+        ensures room { OnOk result (0 < self.new.room) }
+        ensures like { StashLike self.old self.new }
     {
         if self.depth < self.items.len() {
             return Ok(());
         }
         let alloc = *self.items.allocator();
-        self.items.push(Array {
-            dimensions: Vec::new(alloc),
-            elements: Vec::new(alloc),
-            hidden: false,
-        })?;
+        self.items.push(Array::new(alloc))?;
         Ok(())
     }
 
-    /// Puts a copy of an array on the stash, over spare buffers. If memory runs out,
-    /// the arrays on the stash stay.
-    #[tactic(auto, using(crate::proofs::StashingLemmas::stashing))]
+    /// Puts a copy of an array on the stash, over spare buffers. If memory runs out, the values
+    /// stay.
     pub fn save(&mut self, array: &Array) -> Result<(), NoMemory>
-        ensures ok { OnOk result (IsPutOn (array_of array.now) (arrays_of self.old)
-            (arrays_of self.new)) }
-        ensures err { OnErr result (StashLike (arrays_of self.old) (arrays_of self.new)) }
+        ensures ok { OnOk result (IsPutOn array.now self.old self.new) }
+        ensures err { OnErr result (StashLike self.old self.new) }
     {
         self.grow()?;
-        copy_into(&mut self.items[self.depth], array)?;
+        self.items[self.depth].copy_from(array)?;
         self.depth += 1;
         Ok(())
     }
 
-    /// Puts an array on the stash, in exchange for a spare one. Whether it is ignored stays. If
-    /// memory runs out, the array and those on the stash stay.
-    #[tactic(auto, using(crate::proofs::StashingLemmas::stashing))]
+    /// Puts an array on the stash, in exchange for a spare one. If memory runs out, the array and
+    /// the values stay.
     pub fn put(&mut self, array: &mut Array) -> Result<(), NoMemory>
-        ensures ok { OnOk result (IsPutOn (array_of array.old) (arrays_of self.old)
-            (arrays_of self.new)) }
-        ensures err { OnErr result (StashLike (arrays_of self.old) (arrays_of self.new)) }
-        ensures stays { OnErr result (array_of array.new ≡ array_of array.old) }
-        ensures hidden { is_hidden array.new ≡ is_hidden array.old }
+        ensures ok { OnOk result (IsPutOn array.old self.old self.new) }
+        ensures err { OnErr result (StashLike self.old self.new) }
+        ensures stays { OnErr result (array.new ≡ array.old) }
     {
         self.grow()?;
-        exchange(array, &mut self.items[self.depth]);
-        self.depth += 1;
+        self.put_back(array);
         Ok(())
     }
-}
-
-/// Takes the newest value off the stash in a slot, if there is one. Its room stays.
-#[tactic(auto, using(crate::proofs::ArrayLists::items_mapped))]
-pub fn drop_at<T: Drop>(stashes: &mut Vec<Stash<T>>, slot: u32)
-    ensures { map stash_in stashes.new.items
-        ≡ at_slot taken_off slot (map stash_in stashes.old.items) }
-{
-    if slot as usize >= stashes.len() {
-        return;
-    }
-    let stash = &mut stashes[slot as usize];
-    stash.depth = stash.depth.saturating_sub(1);
-}
-
-/// Puts a value back on the stash in a slot, if it has spare room, in exchange for what is there.
-#[tactic(auto, using(crate::proofs::ArrayLists::items_mapped))]
-pub fn put_at<T: Drop>(stashes: &mut Vec<Stash<T>>, slot: u32, value: &mut T)
-    ensures { map stash_in stashes.new.items
-        ≡ at_slot (put_on value.old) slot (map stash_in stashes.old.items) }
-{
-    if slot as usize >= stashes.len() {
-        return;
-    }
-    let stash = &mut stashes[slot as usize];
-    if stash.depth < stash.items.len() {
-        swap(&mut stash.items[stash.depth], value);
-        stash.depth += 1;
-    }
-}
-
-/// Puts a number on the stash of the scalar in a slot, and notes that (Revised Manual, 4.4.5). If
-/// memory runs out, nothing changes.
-#[tactic(auto, using(crate::proofs::StashingLemmas::stashing))]
-#[inline(always)]
-pub fn save_scalar<N: Notes>(
-    stashes: &mut Vec<Stash<u32>>,
-    notes: &mut N,
-    slot: u32,
-    number: u32,
-) -> Result<(), NoMemory>
-    requires slot { slot < length stashes.old.items }
-    requires room { 0 < N.room notes.old }
-    ensures saved { OnOk result (ChangesAt slot (IsPutOn number)
-        (map numbers_of stashes.old.items) (map numbers_of stashes.new.items)) }
-    ensures same { OnErr result (map numbers_of stashes.new.items
-        ≡ map numbers_of stashes.old.items) }
-    ensures noted { NotesOne N.room N.low N.fixed N.changes notes.old notes.new }
-    ensures notes { (k : ℕ) (v m : View) →
-        v.parts.scalar_stashes ≡ map numbers_of stashes.old.items → N.Undoes notes.old k v m →
-        N.Undoes notes.new k (with_scalar_stashes (map numbers_of stashes.new.items) v) m }
-{
-    stashes[slot as usize].save(number)?;
-    // `notes` needs that views that are alike are undone alike.
-    notes.law();
-    notes.note(Entry::ScalarSaved(slot));
-    Ok(())
-}
-
-/// Puts a copy of the array in a slot on its stash, and notes that (Revised Manual, 4.4.5). If
-/// memory runs out, the arrays on the stash stay.
-#[tactic(auto, using(crate::proofs::StashingLemmas::stashing))]
-pub fn save_array<N: Notes>(
-    arrays: &Vec<Array>,
-    stashes: &mut Vec<Stash<Array>>,
-    notes: &mut N,
-    slot: u32,
-) -> Result<(), NoMemory>
-    requires array { slot < length arrays.now.items }
-    requires slot { slot < length stashes.old.items }
-    requires room { 0 < N.room notes.old }
-    ensures saved { OnOk result (ChangesAt slot
-        (IsPutOn (get_or (map array_of arrays.now.items) slot no_array))
-        (map arrays_of stashes.old.items) (map arrays_of stashes.new.items)) }
-    ensures same { OnErr result (StashesLike (map arrays_of stashes.old.items)
-        (map arrays_of stashes.new.items)) }
-    ensures noted { NotesOne N.room N.low N.fixed N.changes notes.old notes.new }
-    ensures notes { (k : ℕ) (v m : View) →
-        v.parts.array_stashes ≡ map arrays_of stashes.old.items → N.Undoes notes.old k v m →
-        N.Undoes notes.new k (with_array_stashes (map arrays_of stashes.new.items) v) m }
-{
-    // `notes` needs that views that are alike are undone alike.
-    notes.law();
-    stashes[slot as usize].save(&arrays[slot as usize])?;
-    notes.note(Entry::ArraySaved(slot));
-    Ok(())
-}
-
-/// Takes the newest number off the stash of the scalar in a slot, and notes that. The number
-/// becomes that of the scalar, unless stores to it lead elsewhere, as it is then ignored (Revised
-/// Manual, 4.4.6). Returns whether there was a number. If there was none, nothing changes.
-#[tactic(auto, using(crate::proofs::StashingLemmas::stashing))]
-pub fn restore_scalar<N: Notes>(
-    registers: &mut [u32],
-    store_target: &[u32],
-    stashes: &mut Vec<Stash<u32>>,
-    notes: &mut N,
-    slot: u32,
-) -> bool
-    requires slot { slot < length stashes.old.items }
-    requires store_target { slot < length store_target.now }
-    requires there { slot < length registers.old }
-    requires room { 0 < N.room notes.old }
-    ensures restored { OnTrue result (IsRestoredTo slot (get_or store_target.now slot 0) registers.old
-        registers.new (map numbers_of stashes.old.items) (map numbers_of stashes.new.items)) }
-    ensures none { OnFalse result (used (get_or (map numbers_of stashes.old.items) slot no_stash)
-        ≡ []) }
-    ensures registers { OnFalse result (registers.new ≡ registers.old) }
-    ensures stashes { OnFalse result (map numbers_of stashes.new.items
-        ≡ map numbers_of stashes.old.items) }
-    ensures noted { NotesOne N.room N.low N.fixed N.changes notes.old notes.new }
-    ensures notes { (k : ℕ) (v m : View) → v.registers ≡ registers.old →
-        v.parts.scalar_stashes ≡ map numbers_of stashes.old.items → N.Undoes notes.old k v m →
-        N.Undoes notes.new k (with_scalar_stashes (map numbers_of stashes.new.items)
-        (record v { registers = registers.new })) m }
-{
-    let Some(number) = stashes[slot as usize].take_newest() else {
-        return false;
-    };
-    // `notes` needs that views that are alike are undone alike.
-    notes.law();
-    notes.note(Entry::ScalarRestored(slot, number, registers[slot as usize]));
-    if store_target[slot as usize] == slot {
-        registers[slot as usize] = number;
-    }
-    true
-}
-
-/// Retrieves the array in a slot from its stash, and notes that (Revised Manual, 4.4.6). The newest
-/// array is taken off. It becomes the array in the slot, unless that one is ignored. An empty stash
-/// is a fault. Then, and if memory runs out, nothing changes.
-#[tactic(auto, using(crate::proofs::StashingLemmas::stashing))]
-pub fn restore_array<N: Notes>(
-    arrays: &mut Vec<Array>,
-    stashes: &mut Vec<Stash<Array>>,
-    notes: &mut N,
-    slot: u32,
-) -> Result<(), Halt>
-    requires array { slot < length arrays.old.items }
-    requires slot { slot < length stashes.old.items }
-    requires room { 0 < N.room notes.old }
-    ensures retrieved { IsRetrieved result (get_or (map is_hidden arrays.old.items) slot false) slot
-        (map array_of arrays.old.items) (map array_of arrays.new.items)
-        (map arrays_of stashes.old.items) (map arrays_of stashes.new.items) }
-    ensures hidden { map is_hidden arrays.new.items ≡ map is_hidden arrays.old.items }
-    ensures noted { NotesOne N.room N.low N.fixed N.changes notes.old notes.new }
-    ensures notes { (k : ℕ) (v m : View) → v.parts.arrays ≡ map array_of arrays.old.items →
-        v.parts.array_stashes ≡ map arrays_of stashes.old.items → N.Undoes notes.old k v m →
-        N.Undoes notes.new k (with_array_stashes (map arrays_of stashes.new.items)
-        (with_arrays (map array_of arrays.new.items) v)) m }
-{
-    // `notes` needs that views that are alike are undone alike.
-    notes.law();
-    let stash = &stashes[slot as usize];
-    if stash.depth == 0 {
-        return Err(Halt::Fault(FaultKind::NothingStashed));
-    }
-    if arrays[slot as usize].hidden {
-        let newest = &stash.items[stash.depth - 1];
-        notes.note_array(ArrayChange::Taken, slot, newest)?;
-        drop_at(stashes, slot);
-        return Ok(());
-    }
-    let array = &mut arrays[slot as usize];
-    notes.note_restored(slot, array)?;
-    stashes[slot as usize].exchange(array);
-    Ok(())
 }

@@ -6,7 +6,6 @@ use Rattle.std.specs.Prelude.{min, if◌then◌else◌}
 use Rattle.std.specs.List.{IsDistinct}
 use Rattle.std.proofs.Props.{props}
 use Rattle.std.proofs.lemmas.Bool.{eqb-true}
-use Rattle.std.proofs.lemmas.Simd.{map-map}
 use Rattle.std.proofs.lemmas.List.{drop_min, get_or-map, get_or_default, length-drop, length-map, length-take-le}
 use Rattle.std.proofs.lemmas.List.{reverse-reverse, same_lists, take_all}
 use mathlib.Core.Logic.{∥∥₁_elim}
@@ -21,22 +20,16 @@ use Rattle.ick_runtime.proofs.Maps.{array_kind, map_of-get, scalar_slot}
 use Rattle.ick_runtime.specs.Inputs.{input_of}
 use Rattle.ick_runtime.specs.Status.{flag_at, is_abstained}
 use Rattle.ick_runtime.specs.Steady.{IsHome}
-use Rattle.ick_runtime.specs.View.{array_names, array_of, arrays_of, both, dump_of, is_hidden, map_of, numbers_of, scalar_names}
-use Rattle.ick_runtime.specs.View.{state_of, used}
+use Rattle.ick_runtime.specs.View.{array_names, both, dump_of, map_of, scalar_names, state_of}
+use Rattle.ick_runtime.specs.Stash.{used}
 use Rattle.ick_marks.specs.declared.saved.Saved.{Saved}
-use Rattle.ick_marks.specs.Saved.{arrays_on, IsKept, numbers_on, saved_view}
+use Rattle.ick_marks.specs.Saved.{IsKept, saved_view}
 use Rattle.ick_states.specs.Alike.{AreAlike, AreAlikeRests}
 
 flags : (xs : List ℕ) (n : ℕ) → flag_at xs n ≡ get_or (map is_abstained xs) n false
 flags [] n = refl
 flags (x ∷ xs) zero = refl
 flags (x ∷ xs) (suc n) = flags xs n
-
-used-numbers : (xs : List _) → map used (map numbers_of xs) ≡ map numbers_on xs
-used-numbers xs = map-map used numbers_of xs
-
-used-arrays : (xs : List _) → map used (map arrays_of xs) ≡ map arrays_on xs
-used-arrays xs = map-map used arrays_of xs
 
 -- what is left of an input
 left : (text : List ℕ) (m n : ℕ) → min m (length text) ≡ min n (length text) → drop m text ≡ drop n text
@@ -50,8 +43,8 @@ alike_state code lowered text p q h = λ i. record {
   returns = reverse (take (length (h.returns i)) (h.returns i));
   scalars = map_of (scalar_names code) (h.numbers i) 0;
   arrays = map_of (array_names code) (h.rest.arrays i) no_array;
-  stashed_scalars = λ name. reverse (map_of (scalar_names code) (numbers i) [] name);
-  stashed_arrays = λ name. reverse (map_of (array_names code) (arrays i) [] name);
+  stashed_scalars = λ name. reverse (map_of (scalar_names code) (h.rest.scalar_stashes i) [] name);
+  stashed_arrays = λ name. reverse (map_of (array_names code) (h.rest.array_stashes i) [] name);
   ignored =
       both (map_of (scalar_names code) (map (λ r. r == dump_of lowered) (h.store_target i)) false)
       (map_of (array_names code) (h.rest.hidden i) false);
@@ -63,13 +56,6 @@ alike_state code lowered text p q h = λ i. record {
   end = None;
 }
   where
-    numbers : map used (map numbers_of p.rest.scalar_stashes.items) ≡ map used (map numbers_of q.rest.scalar_stashes.items)
-    numbers =
-        used-numbers p.rest.scalar_stashes.items ∙ h.rest.scalar_stashes ∙ sym (used-numbers q.rest.scalar_stashes.items)
-
-    arrays : map used (map arrays_of p.rest.array_stashes.items) ≡ map used (map arrays_of q.rest.array_stashes.items)
-    arrays = used-arrays p.rest.array_stashes.items ∙ h.rest.array_stashes ∙ sym (used-arrays q.rest.array_stashes.items)
-
     abstained : (n : ℕ) → flag_at p.statuses.items n ≡ flag_at q.statuses.items n
     abstained n =
         flags p.statuses.items n ∙ ap (λ xs. get_or xs n false) h.abstained ∙ sym (flags q.statuses.items n)
@@ -109,20 +95,20 @@ module _ (code : Code) (lowered : LoweredParts) (low : IsLowered code lowered) (
     statuses_long : length s.statuses.items ≡ length (code_program code) + 2
     statuses_long = ∥∥₁_elim kept (hlevel props) (λ k. ap length k.2.statuses_kept ∙ k.1.steady.statuses.count)
 
-    arrays_long : length (map array_of s.rest.arrays.items) ≡ length (array_names code)
+    arrays_long : length s.rest.arrays.items ≡ length (array_names code)
     arrays_long =
         ∥∥₁_elim kept (hlevel props) (λ k. ap (λ p. length p.arrays) k.2.parts_kept.others ∙ k.1.steady.arrays)
 
-    hidden_long : length (map is_hidden s.rest.arrays.items) ≡ length (array_names code)
+    hidden_long : length s.rest.hidden.items ≡ length (array_names code)
     hidden_long =
         ∥∥₁_elim kept (hlevel props) (λ k. ap (λ p. length p.hidden) k.2.parts_kept.others ∙ k.1.steady.hidden)
 
-    scalar_stashes_long : length (map used (map numbers_of s.rest.scalar_stashes.items)) ≡ length (scalar_names code)
+    scalar_stashes_long : length (map used s.rest.scalar_stashes.items) ≡ length (scalar_names code)
     scalar_stashes_long =
         ∥∥₁_elim kept (hlevel props)
         (λ k. ap length k.2.parts_kept.scalars ∙ length-map k.0.parts.scalar_stashes used ∙ k.1.steady.scalar_stashes)
 
-    array_stashes_long : length (map used (map arrays_of s.rest.array_stashes.items)) ≡ length (array_names code)
+    array_stashes_long : length (map used s.rest.array_stashes.items) ≡ length (array_names code)
     array_stashes_long =
         ∥∥₁_elim kept (hlevel props)
         (λ k. ap length k.2.parts_kept.arrays ∙ length-map k.0.parts.array_stashes used ∙ k.1.steady.array_stashes)
@@ -168,21 +154,21 @@ module _ (code : Code) (lowered : LoweredParts) (is : IsCompiled (code_program c
         let kind = (scalar_slot code k name is at).kind in
         let one = map_of (scalar_names code) (map (λ r. r == dump_of lowered) p.store_target.items) false name in
         let two = map_of (scalar_names code) (map (λ r. r == dump_of lowered) q.store_target.items) false name in
-        let a = map_of (array_names code) (map is_hidden p.rest.arrays.items) false name in
-        let b = map_of (array_names code) (map is_hidden q.rest.arrays.items) false name in
+        let a = map_of (array_names code) p.rest.hidden.items false name in
+        let b = map_of (array_names code) q.rest.hidden.items false name in
         let whole : (if is_array name.kind then a else one) ≡ (if is_array name.kind then b else two) =
         ap (λ (s : State). s.ignored name) same in
         subst (λ z. (if z then a else one) ≡ (if z then b else two)) kind whole
 
     array_ignored : (k : ℕ) (name : Name) → slice_get (array_names code) k ≡ Some name →
-        map_of (array_names code) (map is_hidden p.rest.arrays.items) false name
-        ≡ map_of (array_names code) (map is_hidden q.rest.arrays.items) false name
+        map_of (array_names code) p.rest.hidden.items false name
+        ≡ map_of (array_names code) q.rest.hidden.items false name
     array_ignored k name at =
         let kind = array_kind code k name is at in
         let one = map_of (scalar_names code) (map (λ r. r == dump_of lowered) p.store_target.items) false name in
         let two = map_of (scalar_names code) (map (λ r. r == dump_of lowered) q.store_target.items) false name in
-        let a = map_of (array_names code) (map is_hidden p.rest.arrays.items) false name in
-        let b = map_of (array_names code) (map is_hidden q.rest.arrays.items) false name in
+        let a = map_of (array_names code) p.rest.hidden.items false name in
+        let b = map_of (array_names code) q.rest.hidden.items false name in
         let whole : (if is_array name.kind then a else one) ≡ (if is_array name.kind then b else two) =
         ap (λ (s : State). s.ignored name) same in
         subst (λ z. (if z then a else one) ≡ (if z then b else two)) kind whole
@@ -252,26 +238,22 @@ module _ (code : Code) (lowered : LoweredParts) (is : IsCompiled (code_program c
       abstained = abstained_same;
       returns = returns_same;
       rest = record {
-        arrays = same_maps (array_names code) (map array_of p.rest.arrays.items) (map array_of q.rest.arrays.items) no_array
+        arrays = same_maps (array_names code) p.rest.arrays.items q.rest.arrays.items no_array
             is.arrays_once (arrays_long code lowered low p mine) (arrays_long code lowered low q other)
             (λ k name at. ap (λ (s : State). s.arrays name) same);
-        hidden = same_maps (array_names code) (map is_hidden p.rest.arrays.items) (map is_hidden q.rest.arrays.items)
+        hidden = same_maps (array_names code) p.rest.hidden.items q.rest.hidden.items
             false is.arrays_once (hidden_long code lowered low p mine) (hidden_long code lowered low q other)
             array_ignored;
         scalar_stashes =
-            sym (used-numbers p.rest.scalar_stashes.items)
-            ∙ same_maps (scalar_names code) (map used (map numbers_of p.rest.scalar_stashes.items))
-            (map used (map numbers_of q.rest.scalar_stashes.items)) [] is.scalars_once
+            same_maps (scalar_names code) (map used p.rest.scalar_stashes.items)
+            (map used q.rest.scalar_stashes.items) [] is.scalars_once
             (scalar_stashes_long code lowered low p mine) (scalar_stashes_long code lowered low q other)
-            (λ k name at. same_reversed _ _ (ap (λ (s : State). s.stashed_scalars name) same))
-            ∙ used-numbers q.rest.scalar_stashes.items;
+            (λ k name at. same_reversed _ _ (ap (λ (s : State). s.stashed_scalars name) same));
         array_stashes =
-            sym (used-arrays p.rest.array_stashes.items)
-            ∙ same_maps (array_names code) (map used (map arrays_of p.rest.array_stashes.items))
-            (map used (map arrays_of q.rest.array_stashes.items)) [] is.arrays_once
+            same_maps (array_names code) (map used p.rest.array_stashes.items)
+            (map used q.rest.array_stashes.items) [] is.arrays_once
             (array_stashes_long code lowered low p mine) (array_stashes_long code lowered low q other)
-            (λ k name at. same_reversed _ _ (ap (λ (s : State). s.stashed_arrays name) same))
-            ∙ used-arrays q.rest.array_stashes.items;
+            (λ k name at. same_reversed _ _ (ap (λ (s : State). s.stashed_arrays name) same));
         taken =
             (let e = ap (λ (s : State). length s.input) same in
             omega (arith, e, length-drop p.rest.taken text, length-drop q.rest.taken text));

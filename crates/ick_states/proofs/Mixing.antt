@@ -2,33 +2,28 @@
 use Prim.Native.Nat.{zero, suc}
 use Rattle.std.proofs.Common.{◌≡◌, ℕ, ◌+◌, ◌<◌, ◌≤◌, List, [], ◌∷◌, map, take, length, get_or, refl, ap, sym, ◌∙◌, arith}
 use Rattle.std.specs.List.{fold}
+use Rattle.std.proofs.lemmas.Grind.{common_steps}
 use Rattle.std.specs.Prelude.{Bool, false, ◌*◌, ◌/◌, ◌%◌, ◌-◌, drop, nat_le, slice_index, if◌then◌else◌}
 use Rattle.std.proofs.lemmas.Bool.Decides.{nat_tests}
 use Rattle.std.proofs.lemmas.List.{drop_all, drop_more, length-map}
+use Rattle.ick_runtime.specs.Stash.{Stash, used}
 use Rattle.ick_runtime.specs.Status.{is_abstained}
-use Rattle.ick_states.specs.Hashed.{mix, mix_pairs, mix_places, pair}
+use Rattle.ick_states.specs.Hashed.{mix, mix_all, mix_pairs, mix_places, pair}
 
-module _ {T V : Type 0} (value : T → V) (mixed : ℕ → V → ℕ) where
-  more : (hash : ℕ) (xs : List T) (at : ℕ) (x : T) → at < length xs → x ≡ get_or xs at x →
-      fold mixed hash (take (suc at) (map value xs)) ≡ mixed (fold mixed hash (take at (map value xs))) (value x)
-  more hash [] at x h e = absurd (let z : ⊥ = omega (arith, h) in z)
-  more hash (y ∷ xs) zero x h e = ap (λ z. mixed hash (value z)) (sym e)
-  more hash (y ∷ xs) (suc at) x h e = more (mixed hash (value y)) xs at x (omega (arith, h)) e
-
+module _ {T : Type 0} (mixed : ℕ → T → ℕ) where
   -- one value more
   pub mixed_next : (hash : ℕ) (xs : List T) (at : ℕ) (x : T) → at < length xs → x ≡ get_or xs at x →
-      fold mixed hash (take (at + 1) (map value xs)) ≡ mixed (fold mixed hash (take at (map value xs))) (value x)
-  mixed_next hash xs at x h e =
-      let n : at + 1 ≡ suc at = omega arith in
-      ap (λ k. fold mixed hash (take k (map value xs))) n ∙ more hash xs at x h e
+      fold mixed hash (take (at + 1) xs) ≡ mixed (fold mixed hash (take at xs)) x
+  mixed_next hash xs at x h e = grind (arith, common_steps)
 
   -- all values
-  pub mixed_all : (hash : ℕ) (xs : List T) (at : ℕ) → length xs ≤ at →
-      fold mixed hash (take at (map value xs)) ≡ fold mixed hash (map value xs)
-  mixed_all hash [] zero h = refl
-  mixed_all hash [] (suc at) h = refl
-  mixed_all hash (x ∷ xs) zero h = absurd (let z : ⊥ = omega (arith, h) in z)
-  mixed_all hash (x ∷ xs) (suc at) h = mixed_all (mixed hash (value x)) xs at (omega (arith, h))
+  pub mixed_all : (hash : ℕ) (xs : List T) (at : ℕ) → length xs ≤ at → fold mixed hash (take at xs) ≡ fold mixed hash xs
+  mixed_all hash xs at h = grind (arith, common_steps)
+
+-- stashes are mixed by their values
+pub mixed_used : {A : Type 0} (mixed : ℕ → List A → ℕ) (hash : ℕ) (xs : List (Stash A)) →
+    mix_all (λ hash s. mixed hash s.values) hash xs ≡ mix_all mixed hash (map used xs)
+mixed_used mixed hash xs = grind (arith, common_steps)
 
 -- for values that are mixed one by one
 pub ruleset value_by_value = (mixed_next, mixed_all)

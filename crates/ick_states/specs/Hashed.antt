@@ -3,9 +3,8 @@ use Rattle.std.specs.Prelude.{ℕ, suc, Bool, List, [], ◌∷◌, length, map, 
 use Rattle.std.specs.List.{fold}
 use Rattle.std.specs.Hash.FoldHasher.{initial, write, finish, folded_multiply, shl}
 use Rattle.ick_code.specs.meaning.State.{Array}
-use Rattle.ick_runtime.specs.{declared.memory.Parts.Parts, Status.is_abstained, View.array_of, View.is_hidden}
+use Rattle.ick_runtime.specs.{declared.memory.Parts.Parts, Stash.used, Status.is_abstained}
 use Rattle.ick_marks.specs.declared.saved.Saved.{Saved}
-use Rattle.ick_marks.specs.Saved.{arrays_on, numbers_on}
 
 -- a hash into which a number was mixed
 unfoldable pub mix : ℕ → ℕ → ℕ
@@ -50,9 +49,9 @@ mix_bytes hash bytes = mix hash (finish (write initial bytes))
 -- over an input of so many bytes
 abbrev pub mix_rest : ℕ → ℕ → Parts → ℕ
 mix_rest long hash r =
-    let arrays = mix_bits (mix_arrays hash (map array_of r.arrays.items)) (map is_hidden r.arrays.items) in
-    let numbers = mix_all mix_numbers arrays (map numbers_on r.scalar_stashes.items) in
-    let stashes = mix_all mix_arrays numbers (map arrays_on r.array_stashes.items) in
+    let arrays = mix_bits (mix_arrays hash r.arrays.items) r.hidden.items in
+    let numbers = mix_all mix_numbers arrays (map used r.scalar_stashes.items) in
+    let stashes = mix_all mix_arrays numbers (map used r.array_stashes.items) in
     mix (mix (mix (mix_bytes stashes r.output.items) r.last) r.lastin) (min r.taken long)
 
 abbrev pub mix_saved : ℕ → Saved → ℕ

@@ -1,6 +1,7 @@
 -- Defines how many bytes a kept state takes: its lists by their lengths, and what holds them.
 use Rattle.std.specs.Prelude.{ℕ, ◌+◌, ◌*◌, List, [], ◌∷◌, length}
-use Rattle.ick_runtime.specs.{declared.memory.Array.Array, declared.memory.Parts.Parts, declared.memory.Stash.Stash}
+use Rattle.ick_code.specs.meaning.State.{Array}
+use Rattle.ick_runtime.specs.{declared.memory.Parts.Parts, Stash.Stash}
 use Rattle.ick_marks.specs.declared.saved.Saved.{Saved}
 
 abbrev pub all_bytes : {T : Type 0} → (T → ℕ) → List T → ℕ
@@ -8,13 +9,13 @@ all_bytes size [] = 0
 all_bytes size (x ∷ xs) = size x + all_bytes size xs
 
 abbrev pub array_bytes : Array → ℕ
-array_bytes a = 4 * length a.dimensions.items + 4 * length a.elements.items + 56
+array_bytes a = 4 * length a.dimensions + 4 * length a.elements + 56
 
 abbrev pub numbers_bytes : Stash ℕ → ℕ
-numbers_bytes s = 4 * length s.items.items + 32
+numbers_bytes s = 4 * length s.values + 32
 
 abbrev pub arrays_bytes : Stash Array → ℕ
-arrays_bytes s = all_bytes array_bytes s.items.items + 32
+arrays_bytes s = all_bytes array_bytes s.values + 32
 
 abbrev pub rest_bytes : Parts → ℕ
 rest_bytes r =

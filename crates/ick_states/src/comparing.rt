@@ -2,13 +2,13 @@
 
 ghost use Rattle.std.specs.Prelude.{◌≡◌, true, map, min};
 ghost use Rattle.ick_backtrack.specs.Asked.{finish_of};
-ghost use Rattle.ick_runtime.specs.{Status.is_abstained, View.is_hidden};
+ghost use Rattle.ick_runtime.specs.Status.{is_abstained};
 ghost use Rattle.ick_states.specs.Alike.{AreAlike, AreAlikeRests};
 
-use crate::parts::{abstains, are_same};
+use crate::parts::abstains;
 use ick_backtrack::End;
 use ick_marks::Saved;
-use ick_runtime::{Array, Parts};
+use ick_runtime::Parts;
 
 /// Returns whether two states have the same bytes of input and output. The input has so many bytes.
 fn same_tape(one: &Parts, other: &Parts, long: usize) -> bool
@@ -24,23 +24,6 @@ fn same_tape(one: &Parts, other: &Parts, long: usize) -> bool
         && one.output == other.output
         && one.last == other.last
         && one.lastin == other.lastin
-}
-
-/// Returns whether two lists of arrays are ignored alike.
-#[tactic(auto, using(crate::proofs::SameLists::value_by_value))]
-fn same_hidden(one: &[Array], other: &[Array]) -> bool
-    ensures same { result ≡ true → map is_hidden one.now ≡ map is_hidden other.now }
-    ensures found { map is_hidden one.now ≡ map is_hidden other.now → result ≡ true }
-{
-    if one.len() != other.len() {
-        return false;
-    }
-    for at in 0..one.len() {
-        if one[at].hidden != other[at].hidden {
-            return false;
-        }
-    }
-    true
 }
 
 /// Returns whether two statuses say alike whether a statement is abstained from.
@@ -69,16 +52,16 @@ fn same_abstained(one: &[u8], other: &[u8]) -> bool
 }
 
 /// Returns whether the parts that few instructions change are the same. The input has so many
-/// bytes. Spare room of stashes doesn't matter.
+/// bytes. Room of stashes doesn't matter.
 fn same_rest(one: &Parts, other: &Parts, long: usize) -> bool
     ensures same { result ≡ true → AreAlikeRests long one.now other.now }
     ensures found { AreAlikeRests long one.now other.now → result ≡ true }
 {
     same_tape(one, other, long)
-        && are_same(&one.arrays, &other.arrays)
-        && same_hidden(&one.arrays, &other.arrays)
-        && are_same(&one.scalar_stashes, &other.scalar_stashes)
-        && are_same(&one.array_stashes, &other.array_stashes)
+        && one.arrays == other.arrays
+        && one.hidden == other.hidden
+        && one.scalar_stashes == other.scalar_stashes
+        && one.array_stashes == other.array_stashes
 }
 
 /// Returns whether two states of a program are the same. The input has so many bytes.

@@ -1,14 +1,14 @@
 //! Numbers by which kept states are looked up.
 
 ghost use Rattle.std.specs.Prelude.{◌≡◌, ◌<◌, ◌≤◌, ℕ, length, map, slice_index, if◌then◌else◌};
-ghost use Rattle.ick_runtime.specs.{Status.is_abstained, View.is_hidden};
+ghost use Rattle.ick_runtime.specs.Status.{is_abstained};
 ghost use Rattle.ick_states.specs.Hashed.{mix_bits, mix_bytes as mixed_bytes};
 ghost use Rattle.ick_states.specs.Hashed.{mix_rest as mixed_rest};
 ghost use Rattle.ick_states.specs.Hashed.{mix, mix_places, mix_saved};
 
 use crate::parts::{abstains, mix_all, mix_numbers, mixed};
 use ick_marks::Saved;
-use ick_runtime::{Array, Parts};
+use ick_runtime::Parts;
 use std::hash::{FoldHasher, Hasher};
 
 /// Mixes bytes into a hash.
@@ -22,12 +22,12 @@ fn mix_bytes(hash: u64, bytes: &[u8]) -> u64
 
 /// Mixes into a hash whether arrays are ignored.
 #[tactic(auto, using(crate::proofs::Mixing::value_by_value))]
-fn mix_hidden(hash: u64, arrays: &[Array]) -> u64
-    ensures { result ≡ mix_bits hash (map is_hidden arrays.now) }
+fn mix_hidden(hash: u64, hidden: &[bool]) -> u64
+    ensures { result ≡ mix_bits hash hidden.now }
 {
-    let mut hash = mixed(hash, arrays.len() as u64);
-    for at in 0..arrays.len() {
-        hash = mixed(hash, u64::from(arrays[at].hidden));
+    let mut hash = mixed(hash, hidden.len() as u64);
+    for at in 0..hidden.len() {
+        hash = mixed(hash, u64::from(hidden[at]));
     }
     hash
 }
@@ -66,10 +66,11 @@ fn mix_abstained(hash: u64, statuses: &[u8]) -> u64
 }
 
 /// Mixes the parts that few instructions change into a hash. The input has so many bytes.
+#[tactic(auto, using(crate::proofs::Mixing::mixed_used))]
 fn mix_rest(hash: u64, rest: &Parts, long: usize) -> u64
     ensures { result ≡ mixed_rest long hash rest.now }
 {
-    let hash = mix_hidden(mix_all(hash, &rest.arrays), &rest.arrays);
+    let hash = mix_hidden(mix_all(hash, &rest.arrays), &rest.hidden);
     let hash = mix_all(hash, &rest.scalar_stashes);
     let hash = mix_all(hash, &rest.array_stashes);
     let hash = mix_bytes(hash, &rest.output);

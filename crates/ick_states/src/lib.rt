@@ -4,7 +4,7 @@
 //! | Module | Contents |
 //! |---|---|
 //! | `runs` | a program over its input, its states, and their steps |
-//! | `parts` | parts of kept states that are compared and hashed |
+//! | `parts` | parts of kept states that are hashed |
 //! | `comparing` | kept states that are compared |
 //! | `hashing` | numbers by which kept states are looked up |
 //! | `measuring` | the bytes that kept states take |

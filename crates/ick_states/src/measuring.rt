@@ -29,8 +29,8 @@ impl Measured for Array {
     ghost size = { array_bytes };
 
     fn bytes(&self) -> u64 {
-        list_bytes(&self.dimensions)
-            .saturating_add(list_bytes(&self.elements))
+        list_bytes(self.dimensions())
+            .saturating_add(list_bytes(self.elements()))
             .saturating_add(56)
     }
 }
@@ -41,7 +41,7 @@ impl Measured for Stash<u32> {
     ghost size = { numbers_bytes };
 
     fn bytes(&self) -> u64 {
-        list_bytes(&self.items).saturating_add(32)
+        list_bytes(self.values()).saturating_add(32)
     }
 }
 
@@ -51,7 +51,7 @@ impl Measured for Stash<Array> {
     ghost size = { arrays_bytes };
 
     fn bytes(&self) -> u64 {
-        all_bytes(&self.items).saturating_add(32)
+        all_bytes(self.values()).saturating_add(32)
     }
 }
 

@@ -1,6 +1,6 @@
-//! Parts of kept states that are compared and hashed.
+//! Parts of kept states that are hashed.
 
-ghost use Rattle.std.specs.Prelude.{◌≡◌, ◌+◌, ◌≤◌, ℕ, true, length, map, slice_index};
+ghost use Rattle.std.specs.Prelude.{◌≡◌, ◌+◌, ◌≤◌, ℕ, length, slice_index};
 ghost use Rattle.std.specs.Hash.FoldHasher.{folded_multiply};
 ghost use Rattle.ick_runtime.specs.Status.{is_abstained};
 ghost use Rattle.ick_states.specs.Hashed.{mix, mix_all as mixed_all, pair};
@@ -8,25 +8,14 @@ ghost use Rattle.ick_states.specs.Hashed.{mix_numbers as mixed_numbers, mix_pair
 
 use ick_runtime::{Array, Stash};
 
-/// A value that states are compared by, as far as a state has it.
+/// A value that is mixed into hashes.
 pub trait Part {
-    /// The type of what a state has of it.
-    ghost Value: { Type 0 };
-
-    /// What a state has of it.
-    ghost value: { Self → Self.Value };
-
     /// A hash into which a value was mixed.
-    ghost mixed: { ℕ → Self.Value → ℕ };
-
-    /// Returns whether two values are the same.
-    fn is_same(&self, other: &Self) -> bool
-        ensures same { result ≡ true → value self.now ≡ value other.now }
-        ensures found { value self.now ≡ value other.now → result ≡ true };
+    ghost mixed: { ℕ → Self → ℕ };
 
     /// Mixes the value into a hash.
     fn mix(&self, hash: u64) -> u64
-        ensures { result ≡ mixed hash (value self.now) };
+        ensures { result ≡ mixed hash self.now };
 }
 
 /// Returns whether a statement with this status is abstained from.
@@ -81,92 +70,38 @@ pub fn mix_numbers(hash: u64, numbers: &[u32]) -> u64
     mix_pairs(mixed(hash, numbers.len() as u64), numbers)
 }
 
-/// An array. Whether it is ignored is compared apart.
 impl Part for Array {
-    ghost use Rattle.ick_code.specs.meaning.State.{Array as ArrayValue};
-    ghost use Rattle.ick_runtime.specs.View.{array_of};
     ghost use Rattle.ick_states.specs.Hashed.{mix_array};
-
-    ghost Value = { ArrayValue };
-
-    ghost value = { array_of };
 
     ghost mixed = { mix_array };
 
-    fn is_same(&self, other: &Array) -> bool {
-        self.dimensions == other.dimensions && self.elements == other.elements
-    }
-
     fn mix(&self, hash: u64) -> u64 {
-        mix_numbers(mix_numbers(hash, &self.dimensions), &self.elements)
+        mix_numbers(mix_numbers(hash, self.dimensions()), self.elements())
     }
 }
 
-/// A stash of numbers. Spare room doesn't matter.
 impl Part for Stash<u32> {
-    ghost use Rattle.std.specs.Prelude.{List};
-    ghost use Rattle.ick_marks.specs.Saved.{numbers_on};
-
-    ghost Value = { List ℕ };
-
-    ghost value = { numbers_on };
-
-    ghost mixed = { mixed_numbers };
-
-    fn is_same(&self, other: &Stash<u32>) -> bool {
-        self.items[..self.depth] == other.items[..other.depth]
-    }
+    ghost mixed = { λ hash stash. mixed_numbers hash stash.values };
 
     fn mix(&self, hash: u64) -> u64 {
-        mix_numbers(hash, &self.items[..self.depth])
+        mix_numbers(hash, self.values())
     }
 }
 
-/// A stash of arrays. Spare room doesn't matter, nor whether an array on it is marked as ignored.
 impl Part for Stash<Array> {
-    ghost use Rattle.std.specs.Prelude.{List};
-    ghost use Rattle.ick_code.specs.meaning.State.{Array as ArrayValue};
-    ghost use Rattle.ick_marks.specs.Saved.{arrays_on};
     ghost use Rattle.ick_states.specs.Hashed.{mix_arrays};
 
-    ghost Value = { List ArrayValue };
+    ghost mixed = { λ hash stash. mix_arrays hash stash.values };
 
-    ghost value = { arrays_on };
-
-    ghost mixed = { mix_arrays };
-
-    #[tactic(auto, using(crate::proofs::SameLists::value_by_value))]
-    fn is_same(&self, other: &Stash<Array>) -> bool {
-        are_same(&self.items[..self.depth], &other.items[..other.depth])
-    }
-
-    #[tactic(auto, using(crate::proofs::SameLists::value_by_value))]
     fn mix(&self, hash: u64) -> u64 {
-        mix_all(hash, &self.items[..self.depth])
+        mix_all(hash, self.values())
     }
-}
-
-/// Returns whether two lists have the same values.
-#[tactic(auto, using(crate::proofs::SameLists::value_by_value))]
-pub fn are_same<T: Part>(one: &[T], other: &[T]) -> bool
-    ensures same { result ≡ true → map T.value one.now ≡ map T.value other.now }
-    ensures found { map T.value one.now ≡ map T.value other.now → result ≡ true }
-{
-    if one.len() != other.len() {
-        return false;
-    }
-    for at in 0..one.len() {
-        if !one[at].is_same(&other[at]) {
-            return false;
-        }
-    }
-    true
 }
 
 /// Mixes a list of values, and how many they are, into a hash.
 #[tactic(auto, using(crate::proofs::Mixing::value_by_value))]
 pub fn mix_all<T: Part>(hash: u64, items: &[T]) -> u64
-    ensures { result ≡ mixed_all T.mixed hash (map T.value items.now) }
+    ensures { result ≡ mixed_all T.mixed hash items.now }
 {
     let mut hash = mixed(hash, items.len() as u64);
     for at in 0..items.len() {

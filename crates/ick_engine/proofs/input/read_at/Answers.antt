@@ -1,8 +1,8 @@
-use Rattle.std.proofs.Common.{◌≡◌, ◌<◌, ℕ, List, Option, length, map, get_or, refl, ap, ◌∙◌, arith, rules}
-use Rattle.std.proofs.lemmas.List.{get_or-map, length-map}
-use Rattle.ick_code.specs.{meaning.State.no_array, meaning.Value.element_offset}
+use Rattle.std.proofs.Common.{◌≡◌, ◌<◌, ℕ, List, Option, length, get_or, refl, ap, ◌∙◌, arith, rules}
+use Rattle.std.proofs.lemmas.List.{get_or_default}
+use Rattle.ick_code.specs.{meaning.State.Array, meaning.State.no_array, meaning.Value.element_offset}
 use Rattle.ick_instructions.specs.Meaning.{values_of}
-use Rattle.ick_runtime.specs.{declared.memory.Array.Array, View.{Parts, array_of, is_hidden, parts_of}}
+use Rattle.ick_runtime.specs.View.{Parts, parts_of}
 use Rattle.ick_runtime.proofs.Steadiness.{steady_by, parts_kept}
 use Rattle.ick_engine.proofs.NotingLemmas.{noted_parts, arrays_noted}
 use Rattle.ick_engine.proofs.Reading.{reads_nowhere, read_at_stops, reads_at, took_by}
@@ -11,14 +11,8 @@ use Rattle.ick_engine.proofs.input.read_at.Goals as goal
 -- the offset of an element, by the lists
 placed : (all : List Array) {slot : ℕ} {r : Array} {subs subs' regs regs' : List ℕ} {o : Option ℕ} →
     slot < length all → r ≡ get_or all slot r → subs ≡ subs' → regs ≡ regs' →
-    o ≡ element_offset (array_of r) (values_of subs regs) →
-    o ≡ element_offset (get_or (map array_of all) slot no_array) (values_of subs' regs')
-placed all within here same equal is = search (rules, get_or-map)
-
-long : (new old : List Array) → map is_hidden new ≡ map is_hidden old →
-    length (map array_of new) ≡ length (map array_of old)
-long new old same =
-    cc (length-map new array_of, length-map new is_hidden, same, length-map old is_hidden, length-map old array_of)
+    o ≡ element_offset r (values_of subs regs) → o ≡ element_offset (get_or all slot no_array) (values_of subs' regs')
+placed all within here same equal is = search (rules, get_or_default)
 
 pub returns-in_default-clause-does : goal.returns-in_default-clause-does
 returns-in_default-clause-does g c = λ store_target statuses returns place depth text steady.
@@ -44,15 +38,12 @@ returns-in-Ok-clause-does g c = λ store_target statuses returns place depth tex
     let kept = c.in-Ok.ensures.parts in
     let fault = c.store_at.result in
     rw c.fault_result.ensures (
-      steady_by steady regs (record mid { arrays = map array_of now; hidden = map is_hidden now }) refl steady.constants
-          (long now was c.store_at.ensures.hidden ∙ ap (λ p. length p.arrays) kept)
-          (ap length c.store_at.ensures.hidden ∙ ap (λ p. length p.hidden) kept)
+      steady_by steady regs (record mid { arrays = now }) refl steady.constants
+          (long ∙ ap (λ p. length p.arrays) kept) (ap (λ p. length p.hidden) kept)
           (ap (λ p. length p.scalar_stashes) kept) (ap (λ p. length p.array_stashes) kept),
       took_by g.R.Reader.Has c.args.reader.now c.read_line.new.reader fault _
           (reads_at (search rules) steady i text g.R.Reader.Has c.args.reader.now c.read_line.new.reader c.requires.operation
-          c.requires.slot c.in-Some._at some c.in-Ok.number mid kept c.in-Ok.ensures.read fault (map array_of now)
-          (map is_hidden now) c.store_at.ensures.hidden
-          (λ name at. rw (← c.subscripts_at-subscripts.ensures.order, ← c.subscripts_at-subscripts.ensures.registers)
+          c.requires.slot c.in-Some._at some c.in-Ok.number mid kept c.in-Ok.ensures.read fault now (λ name at. rw (← c.subscripts_at-subscripts.ensures.order, ← c.subscripts_at-subscripts.ensures.registers)
           (c.store_at.ensures.stored name at))),
     )
 
@@ -78,4 +69,4 @@ returns-in-Ok-clause-notes g c =
     let now = c.store_at.new.arrays.items in
     arrays_noted
     (noted_parts c.in_ok-note_taken.ensures.notes old mid (ap (λ (p : Parts). record p { taken = old.taken }) c.in-Ok.ensures.parts))
-    (map array_of now) (map is_hidden now) c.store_at.ensures.noted.kept c.store_at.ensures.hidden c.store_at.ensures.notes
+    now c.store_at.ensures.noted.kept c.store_at.ensures.notes

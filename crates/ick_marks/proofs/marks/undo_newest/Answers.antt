@@ -1,7 +1,6 @@
-use Rattle.std.proofs.{lemmas.Grind.common_steps, Common.{arith, refl, rules, ◌-◌}}
+use Rattle.std.proofs.{lemmas.Grind.common_steps, Common.{arith, refl, rules}}
 use Rattle.ick_marks.proofs.Changes.{alone, array_undone, no_statuses_undone, statuses_undone, with_value}
-use Rattle.ick_marks.proofs.Names.{array_of, change_of}
-use Rattle.ick_runtime.proofs.StashingLemmas.{take_exchanged}
+use Rattle.ick_marks.proofs.Names.{change_of}
 use Rattle.ick_marks.proofs.marks.undo_newest.Goals as goal
 
 pub returns-in-Some-clause-undone : goal.returns-in-Some-clause-undone
@@ -10,12 +9,9 @@ returns-in-Some-clause-undone c = grind (arith, common_steps, statuses_undone)
 pub returns-in-None-clause-undone : goal.returns-in-None-clause-undone
 returns-in-None-clause-undone c = grind (arith, common_steps, no_statuses_undone)
 
-pub returns-then-kept-gt0-clause-undone : goal.returns-then-kept-gt0-clause-undone
-returns-then-kept-gt0-clause-undone c =
-    let kept = c.args.trail.now.arrays in
-    let off = take_exchanged kept (kept.depth - 1) _ c.undo_array.new.old (omega (arith, c.if-kept-gt0.true))
-    c.index_mut.ensures.value in
-    array_undone (array_of c.index_mut.result.now) c.in-Array.is off.values refl (search rules)
+pub returns-then-not-is_empty-clause-undone : goal.returns-then-not-is_empty-clause-undone
+returns-then-not-is_empty-clause-undone c =
+    let old = c.undo_array.ensures in array_undone old.0 c.in-Array.is old.1.values refl (search rules)
 
 pub returns-in_default-clause-undone : goal.returns-in_default-clause-undone
 returns-in_default-clause-undone c =

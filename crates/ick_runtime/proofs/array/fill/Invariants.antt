@@ -1,7 +1,7 @@
 use Rattle.std.proofs.Common.{◌≡◌, ◌≤◌, length, map, take, vec_len, vec_capacity}
 use Rattle.ick_bits.specs.Values.{number_of}
 use Rattle.ick_instructions.specs.Meaning.{values_of}
-use Rattle.ick_engine.proofs.resize.fill.Given as goal
+use Rattle.ick_runtime.proofs.array.fill.Given as goal
 
 abbrev pub invariant-loop-register : goal.invariant-loop-register
 invariant-loop-register l = record {

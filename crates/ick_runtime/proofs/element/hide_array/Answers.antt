@@ -1,6 +1,6 @@
 use Rattle.std.proofs.{Common.{arith, false, get_or, map, slice_set, ◌≡◌}, lemmas.Grind.common_steps}
 use Rattle.ick_runtime.proofs.{Names.{get_or-map, is_hidden, with_hidden}, Hiding.hidden_back}
-use Rattle.ick_runtime.proofs.array.hide_array.Goals as goal
+use Rattle.ick_runtime.proofs.element.hide_array.Goals as goal
 
 pub returns-clause-notes : goal.returns-clause-notes
 returns-clause-notes g c = λ k v m same h.

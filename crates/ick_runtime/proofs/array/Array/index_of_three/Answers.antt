@@ -2,7 +2,7 @@ use Rattle.std.proofs.Common.{ap, arith, drop, get_or, length, List, option_and_
 use Rattle.ick_runtime.proofs.Names.{array_of, reg, values_of, Wide}
 use Rattle.ick_runtime.proofs.OffsetLemmas.{beyond, count_is, inside, none_at, place_is, value_at, walk, walk_last, walk_next}
 use Rattle.ick_runtime.specs.Elements.{stride}
-use Rattle.ick_runtime.proofs.array.index_of_three.Goals as goal
+use Rattle.ick_runtime.proofs.array.Array.index_of_three.Goals as goal
 
 -- one more of three subscripts
 subscript : (ds order regs : List ℕ) (at p d : ℕ) → length ds ≡ 3 → length order ≡ 3 → at < 3 → d ≡ get_or ds at d →

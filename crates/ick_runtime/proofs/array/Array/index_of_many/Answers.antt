@@ -1,8 +1,8 @@
 use Rattle.std.proofs.Common.{ap, arith, drop, get_or, length, option_and_then, refl, rules, Some, sym, ◌+◌, ◌∙◌, ◌≡◌}
 use Rattle.ick_runtime.proofs.Names.{array_of, element_offset, reg, values_of, Wide}
 use Rattle.ick_runtime.proofs.OffsetLemmas.{beyond, count_is, inside, is_inside, is_outside, none_at, place_is, value_at, walk, walk_done, walk_next}
-use Rattle.ick_runtime.proofs.array.index_of_many.Goals.{After-loop-at}
-use Rattle.ick_runtime.proofs.array.index_of_many.Goals as goal
+use Rattle.ick_runtime.proofs.array.Array.index_of_many.Goals.{After-loop-at}
+use Rattle.ick_runtime.proofs.array.Array.index_of_many.Goals as goal
 
 pub returns-then-len-order-clause-index : goal.returns-then-len-order-clause-index
 returns-then-len-order-clause-index c = search (rules, count_is, none_at)
