@@ -36,6 +36,16 @@ impl<T> Model for Stash<T> {
     ghost invariant = { λ s. s.depth ≤ length s.items.items };
 }
 
+impl<T> Stash<T> {
+    /// Returns the values, the newest last.
+    #[inline(always)]
+    pub fn values(&self) -> &[T]
+        ensures { result.now ≡ self.now.values }
+    {
+        &self.items[..self.depth]
+    }
+}
+
 /// A copy has copies of the values, and no room for more.
 impl<T: Clone> Clone for Stash<T> {
     ghost use Rattle.std.specs.List.{AllZip};
@@ -73,14 +83,6 @@ impl<T: Drop> Stash<T> {
             items: Vec::new(alloc),
             depth: 0,
         }
-    }
-
-    /// Returns the values, the newest last.
-    #[inline(always)]
-    pub fn values(&self) -> &[T]
-        ensures { result.now ≡ self.now.values }
-    {
-        &self.items[..self.depth]
     }
 
     /// Takes all values off. Their room stays.
@@ -128,7 +130,7 @@ impl<T: Drop> Stash<T> {
 
 impl Stash<u32> {
     /// Puts a number on the stash. If memory runs out, nothing changes.
-    fn save(&mut self, number: u32) -> Result<(), NoMemory>
+    pub(crate) fn save(&mut self, number: u32) -> Result<(), NoMemory>
         ensures ok { OnOk result (IsPutOn number self.old self.new) }
         ensures err { OnErr result (self.new ≡ self.old) }
     {
@@ -141,7 +143,7 @@ impl Stash<u32> {
     }
 
     /// Takes the newest number off, if there is one.
-    fn take_newest(&mut self) -> Option<u32>
+    pub(crate) fn take_newest(&mut self) -> Option<u32>
         ensures some { IfSome result (λ number. IsTakenOff number self.old self.new) }
         ensures none { IfNone result (self.old.values ≡ []) }
         ensures same { IfNone result (self.new ≡ self.old) }
