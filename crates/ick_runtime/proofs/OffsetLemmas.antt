@@ -46,9 +46,10 @@ walk-from_none ds vs = search (rules, walk-is)
 abbrev pub inside : ℕ → Option ℕ → Option ℕ
 inside count o = option_and_then (λ p. if nat_lt p count then Some p else None) o
 
-pub place_is : (a : Array) (subs : List Value) →
-    inside (length a.elements) (walk 0 a.dimensions subs) ≡ element_offset a subs
-place_is a subs = ap (inside (length a.elements)) (walk-from_none a.dimensions subs)
+pub place_of : (a : Array) {ds : List ℕ} → ds ≡ a.dimensions → (subs : List Value) →
+    inside (length a.elements) (walk 0 ds subs) ≡ element_offset a subs
+place_of a {ds} is subs =
+    ap (inside (length a.elements)) (walk-from_none ds subs ∙ ap (λ l. offset_at l subs) is)
 
 not_below : (p count : ℕ) → count ≤ p → nat_lt p count ≡ false
 not_below p count le = grind (arith, nat_tests)

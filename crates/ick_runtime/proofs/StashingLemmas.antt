@@ -1,5 +1,5 @@
 -- Values that are put on stashes and taken off.
-use Rattle.std.proofs.Common.{ap, arith, get_or, length, List, rules, slice_set, sym, take, ℕ, ◌++◌, ◌-◌, ◌<◌, ◌∷◌, ◌≡◌, []}
+use Rattle.std.proofs.Common.{arith, get_or, length, List, rules, slice_set, ℕ, ◌-◌, ◌<◌, ◌≡◌}
 use Rattle.ick_runtime.proofs.Names.{Array, array_was, at_slot, ChangesAt, common_steps, Err, get_or-set_same, IsPutOn, IsTakenOff}
 use Rattle.ick_runtime.proofs.Names.{length-set, Like, no_array, no_stash, Ok, put_on, Result, set-get_or, set-set, Stash}
 use Rattle.ick_runtime.proofs.Names.{StashLike, taken_off, undone, View, with_array_stashes, with_arrays, with_scalar_stashes}

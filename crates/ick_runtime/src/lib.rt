@@ -8,7 +8,7 @@
 //! - `element`: elements that are fetched and stored, and arrays that are ignored
 //! - `subscripts`: the subscripts of an element
 //! - `stash`: stashes: values that are put on and taken off
-//! - `stashing`: STASH and RETRIEVE
+//! - `stashes`: STASH and RETRIEVE
 //! - `returns`: whether return addresses can be popped
 //! - `halt`: why an instruction stops the run
 //! - `change`, `notes`: what is noted of a change, and who notes it
@@ -26,7 +26,7 @@ mod notes;
 mod point;
 mod returns;
 mod stash;
-mod stashing;
+mod stashes;
 mod subscripts;
 mod tracer;
 
@@ -41,6 +41,6 @@ pub use notes::{Nobody, Notes};
 pub use point::{RunPoint, put, set_register};
 pub use returns::{can_pop, resume_fault};
 pub use stash::Stash;
-pub use stashing::{restore_array, restore_scalar, save_array, save_scalar};
+pub use stashes::{restore_array, restore_scalar, save_array, save_scalar};
 pub use subscripts::Subscripts;
 pub use tracer::{NoTraces, Tracer};

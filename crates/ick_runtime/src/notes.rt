@@ -11,8 +11,8 @@ ghost use Rattle.ick_runtime.specs.Undo.{NotesChange};
 ghost use Rattle.ick_runtime.specs.declared.change.ArrayChange.TheVariants.{Restored};
 ghost use Rattle.ick_runtime.specs.{Noting.NotesOne, View.View};
 
-use crate::change::{ArrayChange, Entry};
 use crate::array::Array;
+use crate::change::{ArrayChange, Entry};
 use ick_bits::NoMemory;
 
 /// Notes changes before they are made, so that they can be undone.

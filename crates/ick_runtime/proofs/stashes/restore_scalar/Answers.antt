@@ -1,8 +1,8 @@
 use Rattle.std.proofs.Common.{arith, get_or, List, slice_set, ℕ, ◌≡◌}
 use Rattle.ick_runtime.proofs.Names.{ChangesAt, IsTakenOff, Parts, set-get_or, View}
 use Rattle.ick_runtime.proofs.{StashingLemmas.{changes_at, like_scalars, taken_like}, Undoing.{put_back, restored_back}}
-use Rattle.ick_runtime.proofs.stashing.restore_scalar.{Given.Over, Goals.After-note}
-use Rattle.ick_runtime.proofs.stashing.restore_scalar.Goals as goal
+use Rattle.ick_runtime.proofs.stashes.restore_scalar.{Given.Over, Goals.After-note}
+use Rattle.ick_runtime.proofs.stashes.restore_scalar.Goals as goal
 
 -- the change was noted, whether the scalar has the number now or not
 module _ (g : Over) (c : After-note g) (k : ℕ) (v m : View) (registers : v.registers ≡ c.args.registers.now)

@@ -2,7 +2,7 @@ use Rattle.std.proofs.Common.{get_or, rules, slice_set, ◌≡◌}
 use Rattle.std.proofs.lemmas.List.{get_or_default}
 use Rattle.ick_runtime.proofs.Names.{ChangesAt, IsPutOn, no_array, with_array_stashes}
 use Rattle.ick_runtime.proofs.StashingLemmas.{changes_at, like_arrays, like_at, saved_like}
-use Rattle.ick_runtime.proofs.stashing.save_array.Goals as goal
+use Rattle.ick_runtime.proofs.stashes.save_array.Goals as goal
 
 pub returns-in_err-save-clause-notes : goal.returns-in_err-save-clause-notes
 returns-in_err-save-clause-notes g c = search (rules, like_arrays, like_at)

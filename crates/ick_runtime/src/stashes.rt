@@ -132,18 +132,17 @@ pub fn restore_array<N: Notes>(
 {
     // `notes` needs that views that are alike are undone alike.
     notes.law();
-    let stash = &mut stashes[slot as usize];
-    let values = stash.values();
+    let values = stashes[slot as usize].values();
     if values.is_empty() {
         return Err(Halt::Fault(FaultKind::NothingStashed));
     }
     if hidden[slot as usize] {
         notes.note_array(ArrayChange::Taken, slot, &values[values.len() - 1])?;
-        stash.drop_newest();
+        stashes[slot as usize].drop_newest();
         return Ok(());
     }
     let array = &mut arrays[slot as usize];
     notes.note_restored(slot, array)?;
-    stash.exchange(array);
+    stashes[slot as usize].exchange(array);
     Ok(())
 }

@@ -1,7 +1,7 @@
 use Rattle.std.proofs.Common.{slice_set}
 use Rattle.ick_runtime.proofs.Names.{ChangesAt, IsPutOn, with_scalar_stashes}
 use Rattle.ick_runtime.proofs.StashingLemmas.{changes_at, like_scalars, saved_like}
-use Rattle.ick_runtime.proofs.stashing.save_scalar.Goals as goal
+use Rattle.ick_runtime.proofs.stashes.save_scalar.Goals as goal
 
 pub returns-clause-saved : goal.returns-clause-saved
 returns-clause-saved g c =
