@@ -78,10 +78,10 @@ pub array_filled : (all : List Array) (slot : ℕ) (hidden : Bool) (e r : Array)
     slice_set all slot e
     ≡ (if hidden then all else slice_set all slot (with_elements (get_or all slot no_array) numbers))
 array_filled all slot true e r numbers within here dimensions elements =
-    let same : e ≡ r = cc (dimensions, elements) in ap (slice_set all slot) same ∙ put_same all slot r here
+    let same : e ≡ r = λ i. record { dimensions = dimensions i; elements = elements i } in ap (slice_set all slot) same ∙ put_same all slot r here
 array_filled all slot false e r numbers within here dimensions elements =
     let was : r ≡ get_or all slot no_array = here ∙ get_or_default all slot r no_array within in
-    let same : e ≡ with_elements r numbers = cc (dimensions, elements) in
+    let same : e ≡ with_elements r numbers = λ i. record { dimensions = dimensions i; elements = elements i } in
     ap (slice_set all slot) (same ∙ ap (λ a. with_elements a numbers) was)
 
 -- all elements were read

@@ -46,8 +46,10 @@ array_decided a b = (
       let two = both_true _ _ both in
       cc ((bytes_decides a.dimensions b.dimensions).0 two.0, (bytes_decides a.elements b.elements).0 two.1),
   λ same.
-      cc ((bytes_decides a.dimensions b.dimensions).1 (ap (λ (a : Array). a.dimensions) same),
-      (bytes_decides a.elements b.elements).1 (ap (λ (a : Array). a.elements) same)),
+      cc (
+        (bytes_decides a.dimensions b.dimensions).1 (ap (λ (a : Array). a.dimensions) same),
+        (bytes_decides a.elements b.elements).1 (ap (λ (a : Array). a.elements) same),
+      ),
 )
 
 pub arrays_decided : (xs ys : List Array) → Decides (pointwise

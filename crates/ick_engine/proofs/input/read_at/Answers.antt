@@ -1,8 +1,9 @@
-use Rattle.std.proofs.Common.{◌≡◌, ◌<◌, ℕ, List, Option, length, get_or, refl, ap, ◌∙◌, arith, rules}
+use Rattle.std.proofs.Common.{◌≡◌, ◌<◌, ℕ, Bool, List, Option, length, get_or, refl, ap, ◌∙◌, arith, rules}
 use Rattle.std.proofs.lemmas.List.{get_or_default}
 use Rattle.ick_code.specs.{meaning.State.Array, meaning.State.no_array, meaning.Value.element_offset}
 use Rattle.ick_instructions.specs.Meaning.{values_of}
-use Rattle.ick_runtime.specs.View.{Parts, parts_of}
+use Rattle.ick_bits.specs.declared.faults.FaultKind.{FaultKind}
+use Rattle.ick_runtime.{proofs.Arms.found, specs.{Elements.IsStored, View.{Parts, array_names, parts_of}}}
 use Rattle.ick_runtime.proofs.Steadiness.{steady_by, parts_kept}
 use Rattle.ick_engine.proofs.NotingLemmas.{noted_parts, arrays_noted}
 use Rattle.ick_engine.proofs.Reading.{reads_nowhere, read_at_stops, reads_at, took_by}
@@ -13,6 +14,11 @@ placed : (all : List Array) {slot : ℕ} {r : Array} {subs subs' regs regs' : Li
     slot < length all → r ≡ get_or all slot r → subs ≡ subs' → regs ≡ regs' →
     o ≡ element_offset r (values_of subs regs) → o ≡ element_offset (get_or all slot no_array) (values_of subs' regs')
 placed all within here same equal is = search (rules, get_or_default)
+
+-- a store keeps the number of arrays
+long : (bound : ℕ) (a : Array) (hidden : Bool) (slot n : ℕ) (o : Option ℕ) (old new : List Array) (fault : Option FaultKind) →
+    IsStored bound a hidden slot n o old new fault → length new ≡ length old
+long = search rules
 
 pub returns-in_default-clause-does : goal.returns-in_default-clause-does
 returns-in_default-clause-does g c = λ store_target statuses returns place depth text steady.
@@ -33,17 +39,22 @@ returns-in-Ok-clause-does g c = λ store_target statuses returns place depth tex
     let some = placed all within c.index.ensures c.subscripts_at-subscripts.ensures.order
     c.subscripts_at-subscripts.ensures.registers c.in-Some.ensures.index in
     let mid = parts_of c.read_line.new.rest in
-    let was = c.read_line.new.rest.arrays.items in
     let now = c.store_at.new.arrays.items in
     let kept = c.in-Ok.ensures.parts in
     let fault = c.store_at.result in
+    let one = found (array_names c.args.program.now.code.now) i.to c.requires.slot in
     rw c.fault_result.ensures (
       steady_by steady regs (record mid { arrays = now }) refl steady.constants
-          (long ∙ ap (λ p. length p.arrays) kept) (ap (λ p. length p.hidden) kept)
+          (long _ _ _ _ _ _ _ _ _ (c.store_at.ensures.stored one.0 one.1) ∙ ap (λ p. length p.arrays) kept) (ap (λ p. length p.hidden) kept)
           (ap (λ p. length p.scalar_stashes) kept) (ap (λ p. length p.array_stashes) kept),
       took_by g.R.Reader.Has c.args.reader.now c.read_line.new.reader fault _
           (reads_at (search rules) steady i text g.R.Reader.Has c.args.reader.now c.read_line.new.reader c.requires.operation
-          c.requires.slot c.in-Some._at some c.in-Ok.number mid kept c.in-Ok.ensures.read fault now (λ name at. rw (← c.subscripts_at-subscripts.ensures.order, ← c.subscripts_at-subscripts.ensures.registers)
+          c.requires.slot c.in-Some._at some c.in-Ok.number mid kept c.in-Ok.ensures.read fault now
+          (λ name at. rw (
+            ← c.subscripts_at-subscripts.ensures.order,
+            ← c.subscripts_at-subscripts.ensures.registers,
+            ← c.deref.ensures.value,
+          )
           (c.store_at.ensures.stored name at))),
     )
 

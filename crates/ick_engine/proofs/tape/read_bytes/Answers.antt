@@ -6,7 +6,8 @@ pub loop-at-preserved : goal.loop-at-preserved
 loop-at-preserved g c =
     let now = c.loop-at.array.elements in
     let at = c.loop-at.at in
-    let within : at < length c.args.array.now.elements = omega (arith, c.loop-at-test.true) in
+    let within : at < length c.args.array.now.elements =
+    omega (arith, c.loop-at-test.true, ap length c.elements.ensures.elements) in
     let put : c.if-not-stays.array.elements ≡ (if c.args.stays then now else slice_set now at c.take-number.result) =
     elim c.if-not-stays.branch [ then-not-stays w ↦ search rules | else-not-stays w ↦ search rules ] in
     record {
