@@ -57,6 +57,13 @@ impl Trail {
         }
     }
 
+    /// Returns the changes, the newest last. Arrays and statuses are kept apart from their entries.
+    pub fn entries(&self) -> &[Entry]
+        ensures { result.now ≡ self.now.entries.items }
+    {
+        &self.entries
+    }
+
     /// Forgets all changes and all marks. The room for changes stays.
     pub fn clear(&mut self)
         ensures empty { changes_in self.new ≡ [] }

@@ -30,6 +30,8 @@ fn can_merge<'c, P: States<'c>>(
     one: &Node<P::State>,
     more: &Node<P::State>,
 ) -> Option<bool>
+    requires one { P.suits program.now one.now.state }
+    requires more { P.suits program.now more.now.state }
     ensures same { IfSome result (λ kept. CanMerge (pending_of (P.seen program.now) one.now)
         (pending_of (P.seen program.now) more.now)) }
     ensures kept { IfSome result
@@ -49,6 +51,8 @@ fn find_node<'c, P: States<'c>>(
     hint: Option<usize>,
     more: &Node<P::State>,
 ) -> Option<(usize, bool)>
+    requires nodes { AreSound (P.suits program.now) nodes.now }
+    requires more { P.suits program.now more.now.state }
     ensures same { IfSome result (λ p. (d : Node P.State) →
         CanMerge (pending_of (P.seen program.now) (slice_index_or nodes.now p.0 d))
         (pending_of (P.seen program.now) more.now)) }

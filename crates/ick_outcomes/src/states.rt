@@ -108,9 +108,11 @@ pub trait States<'c>: Drop {
 
     /// Returns whether two states are equal, also if their runs have ended.
     fn same(&self, one: &Self::State, other: &Self::State) -> bool
+        requires one { suits self.now one.now }
+        requires other { suits self.now other.now }
         ensures equal { result ≡ true → seen self.now one.now ≡ seen self.now other.now }
-        ensures found { suits self.now one.now → suits self.now other.now →
-            (seen self.now one.now).state ≡ (seen self.now other.now).state → result ≡ true };
+        ensures found { (seen self.now one.now).state ≡ (seen self.now other.now).state →
+            result ≡ true };
 
     /// Returns the number by which a state is looked up. Equal states have the same number
     /// (`keys`).

@@ -38,7 +38,7 @@ pub fn asked_by(
 {
     let runs = StateSpace::new(alloc, code, input, false)?;
     let mut tools = runs.tools()?;
-    let first = runs.first()?;
+    let first = runs.first(&mut tools)?;
     lines_asked(alloc, &runs, &mut tools, &first, limit, listing)
 }
 

@@ -43,7 +43,7 @@ fn list_states<E: Progress>(
 {
     let runs = StateSpace::new(alloc, code, input, question.ends)?;
     let mut tools = runs.tools()?;
-    let first = runs.first()?;
+    let first = runs.first(&mut tools)?;
     exact_listing(
         alloc,
         &runs,

@@ -58,7 +58,7 @@ pub fn summarize(
 {
     let runs = StateSpace::new(alloc, code, input, question.ends)?;
     let mut tools = runs.tools()?;
-    let first = runs.first()?;
+    let first = runs.first(&mut tools)?;
     outcomes(
         alloc,
         &runs,

@@ -33,7 +33,7 @@ fn search<E: Progress>(
 {
     let runs = StateSpace::new(alloc, code, input, question.ends)?;
     let mut tools = runs.tools()?;
-    let first = runs.first()?;
+    let first = runs.first(&mut tools)?;
     states_text(
         alloc,
         &runs,

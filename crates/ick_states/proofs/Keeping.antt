@@ -21,9 +21,6 @@ use Rattle.ick_engine.specs.Exits.{end_of}
 use Rattle.ick_machine.specs.Asked.{asked_by}
 use Rattle.ick_machine.specs.Run.{ending_of, run_state}
 use Rattle.ick_outcomes.specs.Accounts.{Configuration}
-use Rattle.ick_states.specs.Seen.{kept_state, seen_of, text_of}
-use Rattle.ick_states.specs.declared.runs.KeptRun.{KeptRun}
-use Rattle.ick_states.specs.declared.runs.StateSpace.{StateSpace}
 use Rattle.ick_machine.proofs.AnswerLemmas.{asks_status, place_low}
 
 -- views of the same state, and the same end
@@ -49,19 +46,6 @@ pub asks_on : (code : Code) (lowered : LoweredParts) (input : Input) (v : View) 
     answer ≡ Some (ask (code_program code) (run_state code lowered input v end))
 asks_on code lowered input v end answer none asked =
     asked ∙ sym (ap (λ o. Some (ask (code_program code) (run_state code lowered input v o))) none)
-
--- kept states of the same state, and the same end
-pub place_same : (runs : StateSpace) (one other : KeptRun) →
-    state_of runs.lowered.code.now runs.lowered.parts (input_of runs.input.now) (saved_view one.saved)
-    ≡ state_of runs.lowered.code.now runs.lowered.parts (input_of runs.input.now) (saved_view other.saved) →
-    one.end ≡ other.end → seen_of runs one ≡ seen_of runs other
-place_same runs one other same ends =
-    let code = runs.lowered.code.now in
-    let parts = runs.lowered.parts in
-    let input = input_of runs.input.now in
-    ap {B = Configuration} (λ s. record { program = text_of runs; state = s })
-    (run_same code parts input (saved_view one.saved) (saved_view other.saved) one.end same
-    ∙ ap (kept_state runs.lowered input other.saved) ends)
 
 -- what a call answers
 pub if_ok : {T E : Type 0} (P Q : T → Type 0) (r : Result T E) → ((x : T) → P x → Q x) → IfOk r P → IfOk r Q

@@ -1,8 +1,8 @@
 pub mod Hushing
 pub mod Keeping
-pub mod SameLists
-pub mod ByteSums
-pub mod Mixing
 pub mod Equals
-pub mod Looking
+pub mod Histories
 pub mod SameRuns
+pub mod Appending
+pub mod Telling
+pub mod Unnamed

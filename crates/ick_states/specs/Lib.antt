@@ -1,4 +1,9 @@
+pub mod Coded
+pub mod Histories
+pub mod Entries
 pub mod Seen
+pub mod Rows
 pub mod Alike
-pub mod Hashed
 pub mod Sizes
+pub mod Noted
+pub mod Naming

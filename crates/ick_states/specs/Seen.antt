@@ -1,11 +1,13 @@
 -- Defines what contracts see of a kept state.
-use Rattle.std.specs.Prelude.{ℕ, Option, is_some, length}
+use Rattle.std.specs.Prelude.{ℕ, ◌≡◌, ◌≤◌, List, [], Bool, Option, Some, None, is_some, length, slice_get}
+use Rattle.std.proofs.Common.{get_or}
 use Rattle.ick_code.specs.meaning.State.{State, Ending}
 use Rattle.ick_instructions.specs.declared.lowered.Lowered.{Lowered}
 use Rattle.ick_engine.specs.declared.exit.RawEnd.{RawEnd}
 use Rattle.ick_runtime.specs.declared.memory.Memory.{Memory}
 use Rattle.ick_marks.specs.declared.saved.Saved.{Saved}
 use Rattle.ick_runtime.specs.Memory.{view_in}
+use Rattle.ick_runtime.specs.View.{View, view}
 use Rattle.ick_marks.specs.Saved.{IsKept, saved_view}
 use Rattle.ick_runtime.specs.Steady.{IsSteady}
 use Rattle.ick_runtime.specs.Inputs.{Input, input_of}
@@ -13,7 +15,7 @@ use Rattle.ick_machine.specs.Run.{ending_of, run_state}
 use Rattle.ick_machine.specs.RunIn.{program_of, state_in}
 use Rattle.ick_outcomes.specs.Accounts.{Configuration}
 use Rattle.ick_outcomes.specs.Programs.{Program}
-use Rattle.ick_states.specs.Hashed.{mix_bit, mix_saved}
+use Rattle.ick_states.specs.Entries.{view_at}
 use Rattle.ick_states.specs.declared.runs.KeptRun.{KeptRun}
 use Rattle.ick_states.specs.declared.runs.StateSpace.{StateSpace}
 
@@ -37,17 +39,22 @@ present_state runs memory end = state_in runs.lowered (input_of runs.input.now) 
 abbrev pub text_of : StateSpace → Program
 text_of runs = record { statements = program_of runs.lowered; silent = runs.silent }
 
--- the program, and the state that was kept
+-- the program, and the state that has the number in the history
 abbrev pub seen_of : StateSpace → KeptRun → Configuration
 seen_of runs run = record {
   program = text_of runs;
-  state = kept_state runs.lowered (input_of runs.input.now) run.saved run.end;
+  state = run_state runs.lowered.code.now runs.lowered.parts (input_of runs.input.now)
+      (view_at run.known.log run.number) run.end;
 }
 
 -- how a run ended, if it did
 abbrev pub ending_in : StateSpace → Option RawEnd → Option Ending
 ending_in runs end = ending_of runs.lowered.code.now (input_of runs.input.now) end
 
--- the number by which a state is looked up
-abbrev pub key_of : StateSpace → KeptRun → ℕ
-key_of runs run = mix_bit (mix_saved (length runs.input.now) run.saved) (is_some run.end)
+-- a state of the program's history, from which a run can go on
+pub record IsOf (runs : StateSpace) (run : KeptRun) : Type 0 where
+  pub saved : Saved
+  pub book : run.known.book ≡ runs.history.head.book
+  pub there : slice_get run.known.log run.number ≡ Some saved
+  pub kept : CanGoOnFrom runs.lowered saved
+  pub taken : saved.rest.taken ≤ length runs.input.now
